@@ -1,0 +1,4 @@
+pub mod Flats
+pub mod Laws
+pub mod Registers
+pub mod Same

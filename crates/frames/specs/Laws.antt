@@ -1,0 +1,39 @@
+-- Laws of register files of every make, over the definitions that their contracts cite.
+use mathlib.Core.Bool.{true}
+use mathlib.Core.Path.{_≡_}
+use Prim.Native.Nat.{ℕ, _+_, _<_}
+use Rattle.frames.specs.declared.calls.Call.{Call}
+use Rattle.frames.specs.declared.calls.Answer.{Answer}
+use Rattle.frames.specs.Frames.{Frames, word, saved, restored}
+use Rattle.frames.specs.Calls.{answer-to, after-call, is-refusal}
+
+-- what one call does: it took the frames s to t and answered a
+pub record Performed (s : Frames) (c : Call) (a : Answer) (t : Frames) : Type 0 where
+  pub answers-as-the-frames-do : a ≡ answer-to s c
+  pub holds-the-frames-after : t ≡ after-call s c
+  pub refused-changes-nothing : is-refusal a ≡ true → t ≡ s
+  pub keeps-the-capacity : t .capacity ≡ s .capacity
+
+abbrev pub Refusals-change-nothing : Type 0
+Refusals-change-nothing = (s : Frames) (c : Call) → is-refusal (answer-to s c) ≡ true → after-call s c ≡ s
+
+abbrev pub Capacity-is-fixed : Type 0
+Capacity-is-fixed = (s : Frames) (c : Call) → after-call s c .capacity ≡ s .capacity
+
+-- a callee that returns at once leaves every frame and the outs as they were
+abbrev pub Restore-undoes-save : Type 0
+Restore-undoes-save = (s : Frames) → restored (saved s) ≡ s
+
+-- windows overlap: a caller's outs are its callee's ins, and come back as that
+abbrev pub Outs-become-ins : Type 0
+Outs-become-ins = (s : Frames) (i : ℕ) → i < 8 → word (saved s) (24 + i) ≡ word s (8 + i)
+
+abbrev pub Ins-become-outs : Type 0
+Ins-become-outs = (s : Frames) (i : ℕ) → i < 8 → word (restored s) (8 + i) ≡ word s (24 + i)
+
+pub record Frame-laws : Type 0 where
+  pub refusals-change-nothing : Refusals-change-nothing
+  pub capacity-is-fixed : Capacity-is-fixed
+  pub restore-undoes-save : Restore-undoes-save
+  pub outs-become-ins : Outs-become-ins
+  pub ins-become-outs : Ins-become-outs

@@ -1,0 +1,5 @@
+pub mod Frames
+pub mod Calls
+pub mod Laws
+pub mod Flat
+pub mod FlatShape
