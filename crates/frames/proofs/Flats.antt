@@ -11,13 +11,15 @@ use lib.Seq.{take-set-lt, paste, take-paste, drop-paste}
 use Rattle.std.specs.Iters.{counting}
 use Rattle.std.proofs.shelf.Counted.{length-map-counting, map-counting-more, take-map-counting, getD-map-counting}
 use Rattle.std.proofs.shelf.Lists.{getD-take, getD-drop, drop-set-lt, drop-set-add, take-set-le, drop-drop, drop-take, take-take, drop-at, length-take-le}
-use Rattle.std.proofs.shelf.Tests.{cond-true, cond-false, lt-ltb, le-ltb, cases-lt, and-parts, leb-true, ltb-true}
+use Rattle.std.proofs.shelf.Tests.{cond-true, cond-false, lt-ltb, le-ltb, cases-lt, and-parts, leb-true, ltb-true, ltb-false, le-leb, lt-leb, ne-eqb}
 use Rattle.std.specs.declared.result.Result.{Result}
 use Rattle.std.specs.declared.result.Result.the-variants.{Ok, Err}
 use Rattle.refusal.specs.declared.faults.FileFault.{FileFault}
 use Rattle.frames.specs.declared.frame.Frame.{Frame}
-use Rattle.frames.specs.Frames.{Frames, no-frame, is-windowed, word, with-word, saved, restored, read-answer, write-answer, write-after}
-use Rattle.frames.specs.Flat.{base, eight, frame-at, flat-frames, flat-place}
+use Rattle.refusal.specs.declared.faults.FileFault.the-variants.{AtCapacity}
+use Rattle.frames.specs.Frames.{Frames, depth-of, told-depth, no-frame, is-windowed, is-full, is-last, word, with-word, saved, restored, read-answer, write-answer, write-after, save-answer, save-after}
+use Rattle.frames.specs.Flat.{base, eight, frame-at, flat-frames, flat-place, flat-opened, flat-caller}
+use Rattle.frames.specs.FlatShape.{depth-flat}
 use Rattle.frames.proofs.Registers.{word-out, word-local, word-in}
 use Rattle.frames.proofs.Same.{same-frames}
 
@@ -149,6 +151,9 @@ restored-flat ws top most p t =
     let newest : frame-at ws (top - 1) ≡ getD (map (frame-at ws) (counting 0 top)) (length (map (frame-at ws) (counting 0 top)) - 1) no-frame = sym (ap (λ (k : ℕ). getD (map (frame-at ws) (counting 0 top)) k no-frame) e ∙ getD-map-counting (frame-at ws) 0 top (top - 1) (top - 1) no-frame (omega arith) (omega arith)) in
     same-frames most older (ap (λ (g : Frame). g .ins) newest) (ap (λ (g : Frame). g .locals) newest) (ap (eight ws) a)
 
+pub same-flat : {ws xs : List ℕ} {top top′ most most′ : ℕ} → ws ≡ xs → top ≡ top′ → most ≡ most′ → flat-frames ws top most ≡ flat-frames xs top′ most′
+same-flat a b c = λ i. flat-frames (a i) (b i) (c i)
+
 -- a place that was found is that of a register of the file
 pub record Placed (top r at : ℕ) : Type 0 where
   pub low : 8 ≤ r
@@ -159,6 +164,10 @@ pub record Placed (top r at : ℕ) : Type 0 where
 found-if : (b : Bool) (p at : ℕ) (e : FileFault) → Ok at ≡ cond b (Ok p) (Err e) → (b ≡ true) × (at ≡ p)
 found-if true p at e h = (refl, cc)
 found-if false p at e h = absurd (let z : _≡_ {A = ℕ} 0 1 = cc in omega arith)
+
+missed-if : (b : Bool) (p : ℕ) (d e : FileFault) → Err d ≡ cond b (Ok p) (Err e) → (b ≡ false) × (d ≡ e)
+missed-if true p d e h = absurd (let z : _≡_ {A = ℕ} 0 1 = cc in omega arith)
+missed-if false p d e h = (refl, cc)
 
 pub placed : (top r at : ℕ) → Ok at ≡ flat-place top r → Placed top r at
 placed top r at h =
@@ -177,3 +186,33 @@ write-accepted top r at p = sym (cond-true (is-windowed r) _ _ (p .is))
 pub write-flat : (ws : List ℕ) (top most r v at : ℕ) → top ≤ 255 → Placed top r at → flat-frames (set ws at v) top most ≡ write-after (flat-frames ws top most) r v
 write-flat ws top most r v at few p =
     ap (λ (k : ℕ). flat-frames (set ws k v) top most) (p .place) ∙ with-word-flat ws top most r v few (p .low) (p .high) ∙ sym (cond-true (is-windowed r) _ _ (p .is))
+
+-- a save opens a frame, or is refused
+module _ (ws : List ℕ) (top most : ℕ) (within : top < most) (few : most ≤ 256) where
+  private-depth : depth-of (flat-frames ws top most) ≡ top + 1
+  private-depth = depth-flat ws top most
+
+  pub opened-at : (t : ℕ) → Ok t ≡ flat-opened top most → (is-full (flat-frames ws top most) ≡ false) × (t ≡ top + 1) × (top < 255)
+  opened-at t h =
+      let f = found-if (ltb (top + 1) most) (top + 1) t _ h in
+      let l : top + 1 < most = ltb-true (top + 1) most (f .0) in
+      let d = private-depth in
+      (lt-leb most (depth-of (flat-frames ws top most)) (omega arith), f .1, omega arith)
+
+  pub open-refused : (e : FileFault) → Err e ≡ flat-opened top most → (Err e ≡ save-answer (flat-frames ws top most)) × (flat-frames ws top most ≡ save-after (flat-frames ws top most))
+  open-refused e h =
+      let s : Frames = flat-frames ws top most in
+      let f = missed-if (ltb (top + 1) most) (top + 1) e _ h in
+      let l : most ≤ top + 1 = ltb-false (top + 1) most (f .0) in
+      let d = private-depth in
+      let full : is-full s ≡ true = le-leb most (depth-of s) (omega arith) in
+      let told : top + 1 ≡ told-depth s = omega arith in
+      (ap (λ (x : FileFault). Err x) (f .1 ∙ ap AtCapacity told) ∙ sym (cond-true (is-full s) _ _ full), sym (cond-true (is-full s) _ _ full))
+
+-- a restore goes back a frame
+pub caller-at : (ws : List ℕ) (top most t : ℕ) → Ok t ≡ flat-caller top → (is-last (flat-frames ws top most) ≡ false) × (t ≡ top - 1) × (0 < top)
+caller-at ws top most t h =
+    let f = found-if (ltb 0 top) (top - 1) t _ h in
+    let l : 0 < top = ltb-true 0 top (f .0) in
+    let d = depth-flat ws top most in
+    (ne-eqb (depth-of (flat-frames ws top most)) 1 (λ e. omega arith), f .1, l)

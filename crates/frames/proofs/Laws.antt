@@ -85,13 +85,11 @@ frame-laws =
     }
 
 -- the rest of what a call does follows from its answer and the frames after it
-pub performed : (s : Frames) (c d : Call) (a : Answer) (t : Frames) → c ≡ d → a ≡ answer-to s d → t ≡ after-call s d → Performed s c a t
-performed s c d a t is answers holds =
-    let says : a ≡ answer-to s c = answers ∙ ap (answer-to s) (sym is) in
-    let leaves : t ≡ after-call s c = holds ∙ ap (after-call s) (sym is) in
+pub performed : (s : Frames) (c : Call) (a : Answer) (t : Frames) → a ≡ answer-to s c → t ≡ after-call s c → Performed s c a t
+performed s c a t answers holds =
     record {
-      answers-as-the-frames-do = says;
-      holds-the-frames-after = leaves;
-      refused-changes-nothing = λ h. leaves ∙ refusals-change-nothing s c (ap is-refusal (sym says) ∙ h);
-      keeps-the-capacity = ap (λ (u : Frames). u .capacity) leaves ∙ capacity-is-fixed s c;
+      answers-as-the-frames-do = answers;
+      holds-the-frames-after = holds;
+      refused-changes-nothing = λ h. holds ∙ refusals-change-nothing s c (ap is-refusal (sym answers) ∙ h);
+      keeps-the-capacity = ap (λ (u : Frames). u .capacity) holds ∙ capacity-is-fixed s c
     }

@@ -4,13 +4,13 @@ use mathlib.Core.Bool.{Bool, true, false, cond, _&&_}
 use mathlib.Core.List.{List, map}
 use mathlib.Core.Path.{_≡_}
 use Prim.Native.Nat.{ℕ, _+_, _-_, _*_}
-use lib.Dec.{leb}
+use lib.Dec.{leb, ltb}
 use lib.ListN.{take, drop}
 use Rattle.std.specs.Iters.{counting}
 use Rattle.std.specs.declared.result.Result.{Result}
 use Rattle.std.specs.declared.result.Result.the-variants.{Ok, Err}
 use Rattle.refusal.specs.declared.faults.FileFault.{FileFault}
-use Rattle.refusal.specs.declared.faults.FileFault.the-variants.{NoSuchRegister}
+use Rattle.refusal.specs.declared.faults.FileFault.the-variants.{NoSuchRegister, AtCapacity, LastFrame}
 use Rattle.refusal.specs.declared.faults.SetupFault.{SetupFault}
 use Rattle.refusal.specs.declared.faults.SetupFault.the-variants.{FlatCapacity}
 use Rattle.frames.specs.declared.frame.Frame.{Frame}
@@ -32,6 +32,13 @@ flat-frames ws top capacity = record { older = map (frame-at ws) (counting 0 top
 
 abbrev pub flat-state : FlatFile → Frames
 flat-state f = flat-frames (f .words) (f .top) (f .capacity)
+
+-- the frame that a save opens, and the one that a restore goes back to
+abbrev pub flat-opened : ℕ → ℕ → Result ℕ FileFault
+flat-opened top capacity = cond (ltb (top + 1) capacity) (Ok (top + 1)) (Err (AtCapacity (top + 1)))
+
+abbrev pub flat-caller : ℕ → Result ℕ FileFault
+flat-caller top = cond (ltb 0 top) (Ok (top - 1)) (Err (LastFrame 1))
 
 -- where a register's word lies
 abbrev pub flat-place : ℕ → ℕ → Result ℕ FileFault

@@ -3,3 +3,4 @@ pub mod Calls
 pub mod Laws
 pub mod Flat
 pub mod FlatShape
+pub mod Texts

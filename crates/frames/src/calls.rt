@@ -1,6 +1,6 @@
 // A call on a register file, and its answer, as values.
 ghost use mathlib.Core.Path.{_≡_};
-ghost use Rattle.frames.specs.Calls.{acceptance, reading};
+ghost use Rattle.frames.specs.Calls.{acceptance, reading, answer-to, after-call};
 ghost use Rattle.frames.specs.Laws.{Performed, Frame-laws};
 use crate::file::RegisterFile;
 use refusal::faults::FileFault;
@@ -49,10 +49,9 @@ impl Answer {
     }
 }
 
-// Makes one call on a file of any make.
-pub fn perform<F: RegisterFile>(file: &mut F, call: Call) -> Answer
-    ensures performs_the_call { λ a. ⌜ Performed (state (now (file .entry))) call a (state (now (file .exit))) ⌝ }
-    ensures frames_keep_their_laws { λ _. ⌜ Frame-laws ⌝ }
+fn dispatch<F: RegisterFile>(file: &mut F, call: Call) -> Answer
+    ensures answers_as_the_frames_do { λ a. ⌜ a ≡ answer-to (state (now (file .entry))) call ⌝ }
+    ensures holds_the_frames_after { λ _. ⌜ state (now (file .exit)) ≡ after-call (state (now (file .entry))) call ⌝ }
 {
     match call {
         Call::Save => Answer::acceptance(file.save()),
@@ -62,4 +61,12 @@ pub fn perform<F: RegisterFile>(file: &mut F, call: Call) -> Answer
         Call::Depth => Answer::Depth(file.depth()),
         Call::Spare => Answer::Spare(file.spare()),
     }
+}
+
+// Makes one call on a file of any make.
+pub fn perform<F: RegisterFile>(file: &mut F, call: Call) -> Answer
+    ensures performs_the_call { λ a. ⌜ Performed (state (now (file .entry))) call a (state (now (file .exit))) ⌝ }
+    ensures frames_keep_their_laws { λ _. ⌜ Frame-laws ⌝ }
+{
+    dispatch(file, call)
 }

@@ -3,3 +3,4 @@ pub mod calls;
 pub mod file;
 pub mod flat;
 pub mod frame;
+pub mod texts;

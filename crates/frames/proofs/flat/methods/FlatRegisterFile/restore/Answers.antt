@@ -1,19 +1,19 @@
-use mathlib.Core.Bool.{false}
-use mathlib.Core.Path.{_≡_, sym, _∙_}
+use mathlib.Core.Path.{refl, sym, _∙_}
 use native.Mathlib.Omega.{arith}
-use Rattle.std.proofs.shelf.Tests.{cond-false, ne-eqb}
-use Rattle.frames.specs.Frames.{is-last, depth-of}
+use Rattle.std.proofs.shelf.Tests.{cond-false}
+use Rattle.frames.specs.Frames.{is-last}
 use Rattle.frames.specs.Flat.{flat-state}
-use Rattle.frames.specs.FlatShape.{depth-flat}
-use Rattle.frames.proofs.Flats.{restored-flat}
+use Rattle.frames.proofs.Flats.{same-flat, caller-at, restored-flat}
 use Rattle.frames.proofs.flat.methods.FlatRegisterFile.restore.Needs as need
 
 pub returns : need.returns
 returns c =
     let f = c .args .self .now in
-    let n = depth-flat (f .words) (f .top) (f .capacity) in
-    let t : is-last (flat-state f) ≡ false = ne-eqb _ 1 (λ e. omega arith) in
+    let back = caller-at (f .words) (f .top) (f .capacity) _ (c .in-Continue-self .ensures tt) in
     record {
-      answers-as-the-frames-do = sym (cond-false (is-last (flat-state f)) _ _ t);
-      holds-the-frames-after = restored-flat (f .words) (f .top) (f .capacity) (omega arith) (omega arith) ∙ sym (cond-false (is-last (flat-state f)) _ _ t);
+      answers-as-the-frames-do = sym (cond-false (is-last (flat-state f)) _ _ (back .0));
+      holds-the-frames-after =
+        same-flat refl (back .1) refl
+        ∙ restored-flat (f .words) (f .top) (f .capacity) (back .2) (omega arith)
+        ∙ sym (cond-false (is-last (flat-state f)) _ _ (back .0))
     }

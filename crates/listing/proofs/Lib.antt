@@ -1,0 +1,3 @@
+mod Groups
+mod Lines
+mod Unwound

@@ -1,0 +1,86 @@
+// A trace, replayed line by line.
+ghost use Prim.Native.Nat.{_+_, _^_, _<_};
+ghost use lib.ListN.{length};
+ghost use Rattle.std.specs.Of.String.{string-bytes};
+ghost use Rattle.std.specs.Vec.{made};
+ghost use Rattle.trace.specs.Lines.{lines};
+ghost use Rattle.playback.specs.Playing.{Plays, Replays};
+use crate::faults::Expected;
+use crate::faults::LineFault;
+use frames::calls::perform;
+use frames::file::RegisterFile;
+use frames::flat::FlatFile;
+use frames::flat::methods::FlatRegisterFile;
+use frames::texts::AnswerDisplay;
+use listing::texts::listing;
+use refusal::refusals::RefusalDisplay;
+use std::alloc::AllocError;
+use std::alloc::Global;
+use trace::lines::split_line;
+use trace::requests::read_call;
+use trace::requests::read_flat;
+
+// The text to print, and the line at which the replay broke off, if it did.
+#[derive(Drop)]
+pub struct Playback {
+    pub text: String,
+    pub fault: Option<LineFault>,
+}
+
+// Replays a whole trace on the file that its first line chooses.
+pub fn replay(heap: Global, trace: &[u8]) -> Result<Playback, AllocError>
+    ensures replays_every_line { λ r. ⌜ made r (λ p. Replays (lines (now (trace .entry))) (string-bytes (p .text)) (p .fault)) ⌝ }
+{
+    let (setup, requests) = split_line(trace);
+    let Some(capacity) = read_flat(setup) else {
+        let fault = LineFault {
+            line: 1,
+            expected: Expected::Setup,
+        };
+        return Ok(Playback {
+            text: String::new(heap),
+            fault: Some(fault),
+        });
+    };
+    match FlatFile::new(capacity) {
+        Ok(file) => play(heap, file, requests, 2),
+        Err(fault) => {
+            let refusal = fault.refusal();
+            let text = format!(heap, "{refusal}\n")?;
+            Ok(Playback { text, fault: None })
+        }
+    }
+}
+
+// Makes the calls of the lines from number `first` on, and lists the frames that are left.
+fn play<F: RegisterFile + Drop>(heap: Global, mut file: F, requests: &[u8], first: u64) -> Result<Playback, AllocError>
+    requires { ⌜ first + length (now requests) < 2 ^ 64 ⌝ }
+    ensures { λ r. ⌜ made r (λ p. Plays first (F·RegisterFile .state file) (lines (now (requests .entry))) (string-bytes (p .text)) (p .fault)) ⌝ }
+{
+    let mut text = String::new(heap);
+    let mut rest = requests;
+    let mut line = first;
+    while !rest.is_empty() {
+        let (request, after) = split_line(rest);
+        let Some(call) = read_call(request) else {
+            let fault = LineFault {
+                line,
+                expected: Expected::Request,
+            };
+            return Ok(Playback {
+                text,
+                fault: Some(fault),
+            });
+        };
+        let answer = perform(&mut file, call);
+        match writeln!(text, "{answer}") {
+            Ok(()) => {}
+            Err(_) => return Err(AllocError),
+        }
+        rest = after;
+        line += 1;
+    }
+    let frames = listing(heap, file)?;
+    text.push_str(frames.as_str())?;
+    Ok(Playback { text, fault: None })
+}

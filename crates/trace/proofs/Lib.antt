@@ -1,0 +1,4 @@
+pub mod Decimals
+pub mod LineLaws
+pub mod Pairs
+pub mod Words

@@ -1,0 +1,49 @@
+-- The texts of a trace's requests, and what it is to read one. `decimal n` is what `{n}` writes.
+use mathlib.Core.Path.{_≡_}
+use mathlib.Core.List.{List, _++_}
+use Prim.Native.Nat.{ℕ, _^_, _<_}
+use lib.Chars.{codes}
+use lib.ListN.{length, getD}
+use Rattle.std.specs.Written.{decimal}
+use Rattle.std.specs.declared.option.Option.{Option}
+use Rattle.std.specs.declared.option.Option.the-variants.{Some, None}
+use Rattle.frames.specs.declared.calls.Call.{Call}
+use Rattle.frames.specs.declared.calls.Call.the-variants.{Save, Restore, Read, Write, Depth, Spare}
+
+-- a text that starts as a decimal may: with something, with no plus, and with a zero only if that is all
+abbrev pub Plain : List ℕ → Type 0
+Plain bs = (0 < length bs) × (getD bs 0 0 ≡ 43 → ⊥) × (getD bs 0 0 ≡ 48 → length bs ≡ 1)
+
+-- two numbers, one space between
+abbrev pub pair-text : ℕ × ℕ → List ℕ
+pair-text p = decimal (p .0) ++ (codes " " ++ decimal (p .1))
+
+abbrev pub Small-pair : ℕ × ℕ → Type 0
+Small-pair p = (p .0 < 2 ^ 32) × (p .1 < 2 ^ 32)
+
+-- `write 8 17`
+abbrev pub call-text : Call → List ℕ
+call-text Save = codes "save"
+call-text Restore = codes "restore"
+call-text (Read r) = codes "read " ++ decimal r
+call-text (Write r v) = codes "write " ++ (decimal r ++ (codes " " ++ decimal v))
+call-text Depth = codes "depth"
+call-text Spare = codes "spare"
+
+-- the numbers of a call fit in 32 bits
+abbrev pub Small-call : Call → Type 0
+Small-call Save = Unit {0}
+Small-call Restore = Unit {0}
+Small-call (Read r) = r < 2 ^ 32
+Small-call (Write r v) = (r < 2 ^ 32) × (v < 2 ^ 32)
+Small-call Depth = Unit {0}
+Small-call Spare = Unit {0}
+
+-- `flat 256`
+abbrev pub flat-text : ℕ → List ℕ
+flat-text n = codes "flat " ++ decimal n
+
+-- a reader accepts a line exactly when it is the text of something small, and says of what
+abbrev pub Reads : {X : Type 0} → (X → Type 0) → (X → List ℕ) → List ℕ → Option X → Type 0
+Reads Small text line (Some x) = Small x × (line ≡ text x)
+Reads {X} Small text line None = (x : X) → Small x → line ≡ text x → ⊥

@@ -1,0 +1,4 @@
+// The requests of a trace, read from text.
+pub mod lines;
+pub mod numbers;
+pub mod requests;

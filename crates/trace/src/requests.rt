@@ -1,0 +1,53 @@
+// The requests of a trace.
+ghost use Prim.Native.Nat.{_^_, _<_};
+ghost use Rattle.trace.specs.Texts.{Reads, Small-pair, pair-text, Small-call, call-text, flat-text};
+use crate::lines::first_of;
+use crate::numbers::read_number;
+use frames::calls::Call;
+
+// Two numbers with one space between. A number has no space, so the first one parts them.
+fn read_pair(text: &[u8]) -> Option<(u32, u32)>
+    ensures { λ r. ⌜ Reads Small-pair pair-text (now (text .entry)) r ⌝ }
+{
+    let space = first_of(text, b' ');
+    if space == text.len() {
+        return None;
+    }
+    let left = read_number(&text[0..space])?;
+    let right = read_number(&text[space + 1..])?;
+    Some((left, right))
+}
+
+pub fn read_call(line: &[u8]) -> Option<Call>
+    ensures { λ r. ⌜ Reads Small-call call-text (now (line .entry)) r ⌝ }
+{
+    if line == b"save" {
+        return Some(Call::Save);
+    }
+    if line == b"restore" {
+        return Some(Call::Restore);
+    }
+    if line == b"depth" {
+        return Some(Call::Depth);
+    }
+    if line == b"spare" {
+        return Some(Call::Spare);
+    }
+    if let Some(register) = line.strip_prefix(b"read ") {
+        return Some(Call::Read(read_number(register)?));
+    }
+    if let Some(numbers) = line.strip_prefix(b"write ") {
+        let (register, value) = read_pair(numbers)?;
+        return Some(Call::Write(register, value));
+    }
+    None
+}
+
+pub fn read_flat(line: &[u8]) -> Option<u32>
+    ensures { λ r. ⌜ Reads (λ n. n < 2 ^ 32) flat-text (now (line .entry)) r ⌝ }
+{
+    let Some(number) = line.strip_prefix(b"flat ") else {
+        return None;
+    };
+    read_number(number)
+}
