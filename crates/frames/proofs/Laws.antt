@@ -91,5 +91,5 @@ performed s c a t answers holds =
       answers-as-the-frames-do = answers;
       holds-the-frames-after = holds;
       refused-changes-nothing = λ h. holds ∙ refusals-change-nothing s c (ap is-refusal (sym answers) ∙ h);
-      keeps-the-capacity = ap (λ (u : Frames). u .capacity) holds ∙ capacity-is-fixed s c
+      keeps-the-capacity = ap (λ (u : Frames). u .capacity) holds ∙ capacity-is-fixed s c;
     }

@@ -38,13 +38,13 @@ pub data Plays : ℕ → Frames → List (List ℕ) → List ℕ → Option Line
   lists-the-frames : {k : ℕ} {s : Frames} {text : List ℕ} → text ≡ listing-text s → Plays k s [] text None
   breaks-off : {k : ℕ} {s : Frames} {l : List ℕ} {ls : List (List ℕ)} → Call-line l None → Plays k s (l ∷ ls) [] (unread k Request)
   answers : {k : ℕ} {s : Frames} {l text rest : List ℕ} {ls : List (List ℕ)} {f : Option LineFault} (c : Call) → Call-line l (Some c) → Plays (k + 1) (after-call s c) ls rest f →
-    text ≡ ended (answer-text (answer-to s c)) ++ rest → Plays k s (l ∷ ls) text f
+      text ≡ ended (answer-text (answer-to s c)) ++ rest → Plays k s (l ∷ ls) text f
 
 -- the same of a whole trace, whose first line chooses the file
 pub data Replays : List (List ℕ) → List ℕ → Option LineFault → Type 0 where
   empty : Replays [] [] (unread 1 Setup)
   no-file : {l : List ℕ} {ls : List (List ℕ)} → Flat-line l None → Replays (l ∷ ls) [] (unread 1 Setup)
   refused : {l text : List ℕ} {ls : List (List ℕ)} (n : ℕ) → Flat-line l (Some n) → is-flat-capacity n ≡ false →
-    text ≡ ended (refusal-text (setup-refusal (FlatCapacity n))) → Replays (l ∷ ls) text None
+      text ≡ ended (refusal-text (setup-refusal (FlatCapacity n))) → Replays (l ∷ ls) text None
   plays : {l text : List ℕ} {ls : List (List ℕ)} {f : Option LineFault} (n : ℕ) → Flat-line l (Some n) → is-flat-capacity n ≡ true →
-    Plays 2 (fresh n) ls text f → Replays (l ∷ ls) text f
+      Plays 2 (fresh n) ls text f → Replays (l ∷ ls) text f

@@ -23,10 +23,11 @@ pub impl fmt::Display for Expected as ExpectedDisplay {
     ghost shown = { λ e. Some (expected-text e) };
 
     fn fmt<W: fmt::Write>(&self, f: &mut fmt::Formatter<W>) -> fmt::Result {
-        match self {
-            Expected::Setup => write!(f, "flat N"),
-            Expected::Request => write!(f, "save, restore, read R, write R V, depth or spare"),
-        }
+        let forms = match self {
+            Expected::Setup => "flat N",
+            Expected::Request => "save, restore, read R, write R V, depth or spare",
+        };
+        write!(f, "{forms}")
     }
 }
 

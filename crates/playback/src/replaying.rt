@@ -53,7 +53,12 @@ pub fn replay(heap: Global, trace: &[u8]) -> Result<Playback, AllocError>
 }
 
 // Makes the calls of the lines from number `first` on, and lists the frames that are left.
-fn play<F: RegisterFile + Drop>(heap: Global, mut file: F, requests: &[u8], first: u64) -> Result<Playback, AllocError>
+fn play<F: RegisterFile + Drop>(
+    heap: Global,
+    mut file: F,
+    requests: &[u8],
+    first: u64,
+) -> Result<Playback, AllocError>
     requires { ⌜ first + length (now requests) < 2 ^ 64 ⌝ }
     ensures { λ r. ⌜ made r (λ p. Plays first (F·RegisterFile .state file) (lines (now (requests .entry))) (string-bytes (p .text)) (p .fault)) ⌝ }
 {

@@ -6,5 +6,5 @@ returns g c =
     let ok = c .dispatch .ensures in
     record {
       performs-the-call = performed _ _ _ _ (ok .answers-as-the-frames-do) (ok .holds-the-frames-after);
-      frames-keep-their-laws = frame-laws
+      frames-keep-their-laws = frame-laws;
     }

@@ -13,9 +13,8 @@ pub loop-i-again : need.loop-i-again
 loop-i-again c =
     let from = c .base-from .result in
     let ok = c .set-word .ensures in
-    let inv = c .loop-i .inv in
-    (
+    let inv = c .loop-i .inv in (
       ok .changes-one-word ∙ ap (λ (ws : List ℕ). set ws (from + c .loop-i .i) 0) (inv .0) ∙ fill-from-more (c .args .self .now .words) from (c .loop-i .i) 0 (omega arith),
       ok .keeps-the-newest ∙ inv .1,
-      ok .keeps-the-capacity ∙ inv .2
+      ok .keeps-the-capacity ∙ inv .2,
     )

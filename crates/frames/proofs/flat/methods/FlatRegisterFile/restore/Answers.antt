@@ -13,7 +13,7 @@ returns c =
     record {
       answers-as-the-frames-do = sym (cond-false (is-last (flat-state f)) _ _ (back .0));
       holds-the-frames-after =
-        same-flat refl (back .1) refl
-        ∙ restored-flat (f .words) (f .top) (f .capacity) (back .2) (omega arith)
-        ∙ sym (cond-false (is-last (flat-state f)) _ _ (back .0))
+          same-flat refl (back .1) refl
+          ∙ restored-flat (f .words) (f .top) (f .capacity) (back .2) (omega arith)
+          ∙ sym (cond-false (is-last (flat-state f)) _ _ (back .0));
     }

@@ -20,9 +20,9 @@ returns c =
     record {
       answers-as-the-frames-do = sym (cond-false (is-full (flat-state f)) _ _ (next .0));
       holds-the-frames-after =
-        same-flat (ok .clears-sixteen-words ∙ ap (λ (t : ℕ). paste (f .words) (base t) (replicate 16 0) 16) (next .1)) (ok .keeps-the-newest ∙ next .1) (ok .keeps-the-capacity)
-        ∙ saved-flat (f .words) (f .top) (f .capacity) long (next .2)
-        ∙ sym (cond-false (is-full (flat-state f)) _ _ (next .0))
+          same-flat (ok .clears-sixteen-words ∙ ap (λ (t : ℕ). paste (f .words) (base t) (replicate 16 0) 16) (next .1)) (ok .keeps-the-newest ∙ next .1) (ok .keeps-the-capacity)
+          ∙ saved-flat (f .words) (f .top) (f .capacity) long (next .2)
+          ∙ sym (cond-false (is-full (flat-state f)) _ _ (next .0));
     }
 
 pub returns-in-Break-self : need.returns-in-Break-self

@@ -12,6 +12,6 @@ returns c =
     record {
       answers-as-the-frames-do = write-accepted (f .top) (c .args .register) at p;
       holds-the-frames-after =
-        same-flat (ok .changes-one-word) (ok .keeps-the-newest) (ok .keeps-the-capacity)
-        ∙ write-flat (f .words) (f .top) (f .capacity) (c .args .register) (c .args .word) at (omega arith) p
+          same-flat (ok .changes-one-word) (ok .keeps-the-newest) (ok .keeps-the-capacity)
+          ∙ write-flat (f .words) (f .top) (f .capacity) (c .args .register) (c .args .word) at (omega arith) p;
     }
