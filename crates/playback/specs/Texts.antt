@@ -8,9 +8,9 @@ use Rattle.playback.specs.declared.faults.Expected.the-variants.{Setup, Reques
 use Rattle.playback.specs.declared.faults.LineFault.{LineFault}
 
 abbrev pub expected-text : Expected → List ℕ
-expected-text Setup = codes "flat N"
-expected-text Request = codes "save, restore, read R, write R V, depth or spare"
+expected-text Setup = codes "flat N, with N from 1 to 256"
+expected-text Request = codes "save, restore, read R, write R V, depth or spare, with R and V from 0 to 4294967295"
 
--- `line 3: expected save, restore, read R, write R V, depth or spare`
+-- `line 1: expected flat N, with N from 1 to 256`
 abbrev pub fault-text : LineFault → List ℕ
 fault-text f = codes "line " ++ (decimal (f .line) ++ (codes ": expected " ++ expected-text (f .expected)))

@@ -24,8 +24,9 @@ pub impl fmt::Display for Expected as ExpectedDisplay {
 
     fn fmt<W: fmt::Write>(&self, f: &mut fmt::Formatter<W>) -> fmt::Result {
         let forms = match self {
-            Expected::Setup => "flat N",
-            Expected::Request => "save, restore, read R, write R V, depth or spare",
+            Expected::Setup => "flat N, with N from 1 to 256",
+            Expected::Request =>
+                "save, restore, read R, write R V, depth or spare, with R and V from 0 to 4294967295",
         };
         write!(f, "{forms}")
     }

@@ -1,0 +1,12 @@
+// The worked examples of the reference, shown to hold of the definitions that the contracts cite.
+ghost use mathlib.Core.Path.{_≡_};
+ghost use lib.ListN.{length};
+ghost use Rattle.examples.specs.Examples.{worked, Worked-examples-hold};
+
+// How many worked examples there are, each of which holds.
+pub fn worked_examples() -> usize
+    ensures counts_the_table { λ n. ⌜ n ≡ length worked ⌝ }
+    ensures every_example_holds { λ _. ⌜ Worked-examples-hold ⌝ }
+{
+    4
+}
