@@ -4,11 +4,8 @@ ghost use Rattle.frames.specs.Calls.{acceptance, reading, answer-to, after-cal
 ghost use Rattle.frames.specs.Laws.{Performed, Frame-laws};
 use crate::file::RegisterFile;
 use refusal::faults::FileFault;
-use refusal::faults::FileFaultDebug;
-use refusal::faults::FileFaultEq;
-use refusal::faults::FileFaultPartialEq;
 
-#[derive(Clone, Copy, PartialEq, Eq, Debug)]
+#[derive(Clone, Copy)]
 pub enum Call {
     Save,
     Restore,
@@ -18,7 +15,7 @@ pub enum Call {
     Spare,
 }
 
-#[derive(Clone, Copy, PartialEq, Eq, Debug)]
+#[derive(Clone, Copy)]
 pub enum Answer {
     Accepted,
     Word(u32),

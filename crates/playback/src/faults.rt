@@ -4,7 +4,7 @@ ghost use Rattle.playback.specs.Texts.{expected-text, fault-text};
 use std::fmt;
 
 // What a line was to be.
-#[derive(Clone, Copy, PartialEq, Eq, Debug)]
+#[derive(Clone, Copy)]
 pub enum Expected {
     // The first line, which chooses the file.
     Setup,
@@ -12,7 +12,7 @@ pub enum Expected {
     Request,
 }
 
-#[derive(Clone, Copy, PartialEq, Eq, Debug)]
+#[derive(Clone, Copy)]
 pub struct LineFault {
     // Lines count from 1.
     pub line: u64,

@@ -5,7 +5,7 @@ use crate::layers::Layer;
 use crate::refusals::Refusal;
 
 // What a register file refuses.
-#[derive(Clone, Copy, PartialEq, Eq, Debug)]
+#[derive(Clone, Copy)]
 pub enum FileFault {
     // A register number that is not 8 to 31.
     NoSuchRegister(u32),
@@ -33,7 +33,7 @@ impl FileFault {
 }
 
 // What is refused before anything is made.
-#[derive(Clone, Copy, PartialEq, Eq, Debug)]
+#[derive(Clone, Copy)]
 pub enum SetupFault {
     // A flat file's capacity that is not 1 to 256.
     FlatCapacity(u32),

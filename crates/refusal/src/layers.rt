@@ -3,7 +3,7 @@ ghost use Rattle.refusal.specs.Texts.{layer-name};
 ghost use Rattle.std.specs.declared.option.Option.the-variants.{Some};
 use std::fmt;
 
-#[derive(Clone, Copy, PartialEq, Eq, Debug)]
+#[derive(Clone, Copy)]
 pub enum Layer {
     File,
     Setup,

@@ -2,14 +2,11 @@
 ghost use Rattle.refusal.specs.Texts.{refusal-text};
 ghost use Rattle.std.specs.declared.option.Option.the-variants.{Some};
 use crate::layers::Layer;
-use crate::layers::LayerDebug;
 use crate::layers::LayerDisplay;
-use crate::layers::LayerEq;
-use crate::layers::LayerPartialEq;
 use std::fmt;
 
 // Its number in the list of refusals, the layer that refused, and the place.
-#[derive(Clone, Copy, PartialEq, Eq, Debug)]
+#[derive(Clone, Copy)]
 pub struct Refusal {
     pub number: u8,
     pub layer: Layer,
