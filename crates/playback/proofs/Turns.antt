@@ -82,8 +82,9 @@ module _ (bs l r : List ℕ) (n : ℕ) (front : l ≡ first-line bs) (back : r �
   cut : lines bs ≡ l ∷ lines r
   cut = lines-are bs l r front back (chosen bs n (sym front ∙ choice .1))
 
-  pub file-refused : (text : List ℕ) → is-flat-capacity n ≡ false → text ≡ ended (refusal-text (setup-refusal (FlatCapacity n))) → Replays (lines bs) text None
-  file-refused text no-such told = subst (λ ls. Replays ls text None) (sym cut) (refused n choice no-such told)
+  pub file-refused : (text : List ℕ) (f : Option LineFault) → is-flat-capacity n ≡ false → text ≡ ended (refusal-text (setup-refusal (FlatCapacity n))) → f ≡ None → Replays (lines bs) text f
+  file-refused text f no-such told none =
+      subst (λ ls. Replays ls text f) (sym cut) (subst (λ (x : Option LineFault). Replays (l ∷ lines r) text x) (sym none) (refused n choice no-such told))
 
   pub file-played : (s : Frames) (text : List ℕ) (f : Option LineFault) → is-flat-capacity n ≡ true → s ≡ fresh n → Plays 2 s (lines r) text f → Replays (lines bs) text f
   file-played s text f such made played =

@@ -48,3 +48,8 @@ pub data Replays : List (List ℕ) → List ℕ → Option LineFault → Type 0 
       text ≡ ended (refusal-text (setup-refusal (FlatCapacity n))) → Replays (l ∷ ls) text None
   plays : {l text : List ℕ} {ls : List (List ℕ)} {f : Option LineFault} (n : ℕ) → Flat-line l (Some n) → is-flat-capacity n ≡ true →
       Plays 2 (fresh n) ls text f → Replays (l ∷ ls) text f
+
+-- no trace has two outcomes
+abbrev pub One-outcome : Type 0
+One-outcome =
+    (ls : List (List ℕ)) (text text′ : List ℕ) (f f′ : Option LineFault) → Replays ls text f → Replays ls text′ f′ → (text ≡ text′) × (f ≡ f′)

@@ -1,10 +1,14 @@
 // A trace, replayed line by line.
+ghost use mathlib.Core.Path.{_≡_};
 ghost use Prim.Native.Nat.{_+_, _^_, _<_};
 ghost use lib.ListN.{length};
 ghost use Rattle.std.specs.Of.String.{string-bytes};
 ghost use Rattle.std.specs.Vec.{made};
+ghost use Rattle.std.specs.declared.option.Option.the-variants.{None};
+ghost use Rattle.refusal.specs.Refusals.{setup-refusal};
+ghost use Rattle.refusal.specs.Texts.{refusal-text};
 ghost use Rattle.trace.specs.Lines.{lines};
-ghost use Rattle.playback.specs.Playing.{Plays, Replays};
+ghost use Rattle.playback.specs.Playing.{ended, Plays, Replays, One-outcome};
 use crate::faults::Expected;
 use crate::faults::LineFault;
 use frames::calls::perform;
@@ -13,6 +17,7 @@ use frames::flat::FlatFile;
 use frames::flat::methods::FlatRegisterFile;
 use frames::texts::AnswerDisplay;
 use listing::texts::listing;
+use refusal::faults::SetupFault;
 use refusal::refusals::RefusalDisplay;
 use std::alloc::AllocError;
 use std::alloc::Global;
@@ -30,6 +35,7 @@ pub struct Playback {
 // Replays a whole trace on the file that its first line chooses.
 pub fn replay(heap: Global, trace: &[u8]) -> Result<Playback, AllocError>
     ensures replays_every_line { λ r. ⌜ made r (λ p. Replays (lines (now (trace .entry))) (string-bytes (p .text)) (p .fault)) ⌝ }
+    ensures no_trace_has_two_outcomes { λ _. ⌜ One-outcome ⌝ }
 {
     let (setup, requests) = split_line(trace);
     let Some(capacity) = read_flat(setup) else {
@@ -44,12 +50,17 @@ pub fn replay(heap: Global, trace: &[u8]) -> Result<Playback, AllocError>
     };
     match FlatFile::new(capacity) {
         Ok(file) => play(heap, file, requests, 2),
-        Err(fault) => {
-            let refusal = fault.refusal();
-            let text = format!(heap, "{refusal}\n")?;
-            Ok(Playback { text, fault: None })
-        }
+        Err(fault) => refused(heap, fault),
     }
+}
+
+// Where there is no file, its refusal is all that is printed.
+fn refused(heap: Global, fault: SetupFault) -> Result<Playback, AllocError>
+    ensures { λ r. ⌜ made r (λ p. (string-bytes (p .text) ≡ ended (refusal-text (setup-refusal fault))) × (p .fault ≡ None)) ⌝ }
+{
+    let refusal = fault.refusal();
+    let text = format!(heap, "{refusal}\n")?;
+    Ok(Playback { text, fault: None })
 }
 
 // Makes the calls of the lines from number `first` on, and lists the frames that are left.

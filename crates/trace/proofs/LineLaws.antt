@@ -7,30 +7,29 @@ use native.Mathlib.Omega.{arith}
 use lib.Dec.{eqb}
 use lib.ListN.{length, getD, take, drop}
 use Rattle.std.proofs.shelf.Tests.{cond-true, cond-false, eq-eqb, ne-eqb}
-use Rattle.trace.specs.Lines.{onto, lines, first-line, after-line}
+use Rattle.trace.specs.Lines.{onto, lines, before, after, first-line, after-line}
 
--- a line that is ended at n
-pub ended-at : (bs : List ℕ) (n : ℕ) → n < length bs → ((k : ℕ) → k < n → getD bs k 0 ≡ 10 → ⊥) → getD bs n 0 ≡ 10 → (first-line bs ≡ take n bs) × (after-line bs ≡ drop (n + 1) bs)
-ended-at [] n h before here = absurd (omega arith)
-ended-at (b ∷ bs) zero h before here =
-    (cond-true (eqb b 10) [] (b ∷ first-line bs) (eq-eqb b 10 here), cond-true (eqb b 10) bs (after-line bs) (eq-eqb b 10 here))
-ended-at (b ∷ bs) (suc n) h before here =
-    let rest = ended-at bs n (omega arith) (λ k l. before (suc k) (omega arith)) here in
-    let other = ne-eqb b 10 (before 0 (omega arith)) in
-    let next : suc (n + 1) ≡ suc n + 1 = omega arith in (
-      cond-false (eqb b 10) [] (b ∷ first-line bs) other ∙ ap (λ (l : List ℕ). b ∷ l) (rest .0),
-      cond-false (eqb b 10) bs (after-line bs) other ∙ rest .1 ∙ ap (λ (m : ℕ). drop m (b ∷ bs)) next,
-    )
+module _ (byte : ℕ) where
+  pub split-at : (bs : List ℕ) (n : ℕ) → n < length bs → ((k : ℕ) → k < n → getD bs k 0 ≡ byte → ⊥) → getD bs n 0 ≡ byte → (before byte bs ≡ take n bs) × (after byte bs ≡ drop (n + 1) bs)
+  split-at [] n h sooner here = absurd (omega arith)
+  split-at (b ∷ bs) zero h sooner here =
+      (cond-true (eqb b byte) [] (b ∷ before byte bs) (eq-eqb b byte here), cond-true (eqb b byte) bs (after byte bs) (eq-eqb b byte here))
+  split-at (b ∷ bs) (suc n) h sooner here =
+      let rest = split-at bs n (omega arith) (λ k l. sooner (suc k) (omega arith)) here in
+      let other = ne-eqb b byte (sooner 0 (omega arith)) in
+      let next : suc (n + 1) ≡ suc n + 1 = omega arith in (
+        cond-false (eqb b byte) [] (b ∷ before byte bs) other ∙ ap (λ (l : List ℕ). b ∷ l) (rest .0),
+        cond-false (eqb b byte) bs (after byte bs) other ∙ rest .1 ∙ ap (λ (m : ℕ). drop m (b ∷ bs)) next,
+      )
 
--- a line that is not ended
-pub not-ended : (bs : List ℕ) → ((k : ℕ) → k < length bs → getD bs k 0 ≡ 10 → ⊥) → (first-line bs ≡ bs) × (after-line bs ≡ [])
-not-ended [] before = (refl, refl)
-not-ended (b ∷ bs) before =
-    let rest = not-ended bs (λ k l. before (suc k) (omega arith)) in
-    let other = ne-eqb b 10 (before 0 (omega arith)) in (
-      cond-false (eqb b 10) [] (b ∷ first-line bs) other ∙ ap (λ (l : List ℕ). b ∷ l) (rest .0),
-      cond-false (eqb b 10) bs (after-line bs) other ∙ rest .1,
-    )
+  pub not-split : (bs : List ℕ) → ((k : ℕ) → k < length bs → getD bs k 0 ≡ byte → ⊥) → (before byte bs ≡ bs) × (after byte bs ≡ [])
+  not-split [] none = (refl, refl)
+  not-split (b ∷ bs) none =
+      let rest = not-split bs (λ k l. none (suc k) (omega arith)) in
+      let other = ne-eqb b byte (none 0 (omega arith)) in (
+        cond-false (eqb b byte) [] (b ∷ before byte bs) other ∙ ap (λ (l : List ℕ). b ∷ l) (rest .0),
+        cond-false (eqb b byte) bs (after byte bs) other ∙ rest .1,
+      )
 
 cut-by : (t : Bool) (b : ℕ) (bs : List ℕ) → (0 < length bs → lines bs ≡ first-line bs ∷ lines (after-line bs)) → cond t ([] ∷ lines bs) (onto b (lines bs)) ≡ cond t [] (b ∷ first-line bs) ∷ lines (cond t bs (after-line bs))
 cut-by true b bs more = refl

@@ -16,14 +16,20 @@ abbrev pub lines : List ℕ → List (List ℕ)
 lines [] = []
 lines (b ∷ bs) = cond (eqb b 10) ([] ∷ lines bs) (onto b (lines bs))
 
--- what stands before the first byte 10, and what stands after it
+-- what stands before a byte where it stands first, and what stands after it
+abbrev pub before : ℕ → List ℕ → List ℕ
+before byte [] = []
+before byte (b ∷ bs) = cond (eqb b byte) [] (b ∷ before byte bs)
+
+abbrev pub after : ℕ → List ℕ → List ℕ
+after byte [] = []
+after byte (b ∷ bs) = cond (eqb b byte) bs (after byte bs)
+
 abbrev pub first-line : List ℕ → List ℕ
-first-line [] = []
-first-line (b ∷ bs) = cond (eqb b 10) [] (b ∷ first-line bs)
+first-line = before 10
 
 abbrev pub after-line : List ℕ → List ℕ
-after-line [] = []
-after-line (b ∷ bs) = cond (eqb b 10) bs (after-line bs)
+after-line = after 10
 
 -- the byte b stands first at i; where it stands nowhere, i is the length
 pub record First (bs : List ℕ) (b i : ℕ) : Type 0 where
