@@ -17,6 +17,7 @@ use Rattle.frames.specs.Laws.{Performed, Frame-laws, Refusals-change-nothing, 
 use Rattle.frames.specs.declared.calls.Answer.{Answer}
 use Rattle.frames.specs.declared.frame.Frame.{Frame}
 use Rattle.std.proofs.shelf.Lists.{length-push, take-at, getD-at}
+use Rattle.frames.proofs.Callers.{callers-keep-their-frames}
 use Rattle.frames.proofs.Same.{same-frames}
 use Rattle.frames.proofs.Registers.{word-out, word-in}
 
@@ -80,6 +81,7 @@ frame-laws =
       refusals-change-nothing = refusals-change-nothing;
       capacity-is-fixed = capacity-is-fixed;
       restore-undoes-save = restore-undoes-save;
+      callers-keep-their-frames = callers-keep-their-frames;
       outs-become-ins = outs-become-ins;
       ins-become-outs = ins-become-outs;
     }

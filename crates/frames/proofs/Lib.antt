@@ -1,3 +1,4 @@
+pub mod Callers
 pub mod Flats
 pub mod Laws
 pub mod Registers

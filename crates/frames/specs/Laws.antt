@@ -1,11 +1,12 @@
 -- Laws of register files of every make, over the definitions that their contracts cite.
 use mathlib.Core.Bool.{true}
+use mathlib.Core.List.{List, [], _∷_}
 use mathlib.Core.Path.{_≡_}
 use Prim.Native.Nat.{ℕ, _+_, _<_}
 use Rattle.frames.specs.declared.calls.Call.{Call}
 use Rattle.frames.specs.declared.calls.Answer.{Answer}
-use Rattle.frames.specs.Frames.{Frames, word, saved, restored}
-use Rattle.frames.specs.Calls.{answer-to, after-call, is-refusal}
+use Rattle.frames.specs.Frames.{Frames, all-frames, depth-of, word, saved, restored}
+use Rattle.frames.specs.Calls.{answer-to, after-call, after-calls, is-refusal}
 
 -- what one call does: it took the frames s to t and answered a
 pub record Performed (s : Frames) (c : Call) (a : Answer) (t : Frames) : Type 0 where
@@ -31,9 +32,20 @@ Outs-become-ins = (s : Frames) (i : ℕ) → i < 8 → word (saved s) (24 + i) �
 abbrev pub Ins-become-outs : Type 0
 Ins-become-outs = (s : Frames) (i : ℕ) → i < 8 → word (restored s) (8 + i) ≡ word s (24 + i)
 
+-- at each of these calls, and after them, there are more than n frames
+abbrev pub Stays-above : ℕ → Frames → List Call → Type 0
+Stays-above n s [] = n < depth-of s
+Stays-above n s (c ∷ cs) = (n < depth-of s) × Stays-above n (after-call s c) cs
+
+-- whatever a callee does before it returns, every frame that its caller had is there again
+abbrev pub Callers-keep-their-frames : Type 0
+Callers-keep-their-frames =
+    (s : Frames) (cs : List Call) → Stays-above (depth-of s) (saved s) cs → depth-of (after-calls (saved s) cs) ≡ depth-of s + 1 → all-frames (restored (after-calls (saved s) cs)) ≡ all-frames s
+
 pub record Frame-laws : Type 0 where
   pub refusals-change-nothing : Refusals-change-nothing
   pub capacity-is-fixed : Capacity-is-fixed
   pub restore-undoes-save : Restore-undoes-save
+  pub callers-keep-their-frames : Callers-keep-their-frames
   pub outs-become-ins : Outs-become-ins
   pub ins-become-outs : Ins-become-outs

@@ -4,14 +4,15 @@ use mathlib.Core.Path.{_≡_, refl, sym, ap, _∙_}
 use mathlib.Core.List.{List, [], _∷_, _++_, reverse, append-assoc}
 use Prim.Native.Nat.{ℕ, _+_, _-_, _<_}
 use native.Mathlib.Omega.{arith}
-use lib.ListN.{length, take}
+use lib.ListN.{length}
 use Rattle.std.specs.declared.result.Result.{Result}
 use Rattle.std.specs.declared.result.Result.the-variants.{Ok, Err}
-use Rattle.std.proofs.shelf.Lists.{take-more, take-all, reverse-append, reverse-reverse, nil-from-length, length-take}
+use Rattle.std.proofs.shelf.Lists.{reverse-append, reverse-reverse, nil-from-length, length-take}
 use Rattle.std.proofs.shelf.Tests.{eqb-true, eqb-false}
 use Rattle.refusal.specs.declared.faults.FileFault.{FileFault}
 use Rattle.frames.specs.declared.frame.Frame.{Frame}
-use Rattle.frames.specs.Frames.{Frames, all-frames, depth-of, is-last, no-frame, restored, restore-answer, restore-after}
+use Rattle.frames.proofs.Callers.{all-restored}
+use Rattle.frames.specs.Frames.{Frames, all-frames, depth-of, is-last, restored, restore-answer, restore-after}
 
 went-on : (b : Bool) (e : FileFault) → _≡_ {A = Result (Unit {0}) FileFault} (Ok tt) (cond b (Err e) (Ok tt)) → b ≡ false
 went-on true e h = cc
@@ -22,14 +23,7 @@ stopped true d e h = refl
 stopped false d e h = cc
 
 one-less : (s : Frames) → is-last s ≡ false → all-frames (restored s) ≡ s .older
-unfolding restored
-one-less s more =
-    let some : 0 < length (s .older) = omega (arith, eqb-false (depth-of s) 1 more) in
-    let last : length (s .older) - 1 < length (s .older) = omega arith in
-    let whole : length (s .older) ≡ length (s .older) - 1 + 1 = omega arith in
-    sym (take-more (s .older) (length (s .older) - 1) no-frame last)
-    ∙ ap (λ (n : ℕ). take n (s .older)) (sym whole)
-    ∙ take-all (length (s .older)) (s .older) (omega arith)
+one-less s more = all-restored s (omega (arith, eqb-false (depth-of s) 1 more))
 
 shorter : (s : Frames) → is-last s ≡ false → length (restored s .older) < length (s .older)
 unfolding restored
