@@ -42,10 +42,10 @@ starts first s all text fits none =
 
 module _ {first : ℕ} {s₀ : Frames} {all : List ℕ} {k : ℕ} {s : Frames} {rest text : List ℕ} (sofar : Sofar first s₀ all k s rest text) where
   module _ (l r : List ℕ) (front : l ≡ first-line rest) (back : r ≡ after-line rest) (some : 0 < length rest) where
-    pub no-call-here : Call-line l None → Plays first s₀ (lines all) text (unread k Request)
-    no-call-here none =
-        subst (λ (x : List ℕ). Plays first s₀ (lines all) x (unread k Request)) (append-nil text)
-        (sofar .goes [] (unread k Request) (subst (λ ls. Plays k s ls [] (unread k Request)) (sym (lines-are rest l r front back some)) (breaks-off none)))
+    pub no-call-here : Call-line l None → (text′ : List ℕ) (f : Option LineFault) → text′ ≡ text → f ≡ unread k Request → Plays first s₀ (lines all) text′ f
+    no-call-here none text′ f kept named =
+        let here : Plays k s (lines rest) [] f = subst (λ ls. Plays k s ls [] f) (sym (lines-are rest l r front back some)) (subst (λ (x : Option LineFault). Plays k s (l ∷ lines r) [] x) (sym named) (breaks-off none)) in
+        subst (λ (x : List ℕ). Plays first s₀ (lines all) x f) (append-nil text ∙ sym kept) (sofar .goes [] f here)
 
     pub call-here : (c : Call) (a : Answer) (s′ : Frames) (text′ : List ℕ) → Call-line l (Some c) → Performed s c a s′ → text′ ≡ text ++ ended (answer-text a) → Sofar first s₀ all (k + 1) s′ r text′
     call-here c a s′ text′ call did wrote =
@@ -67,11 +67,13 @@ module _ {first : ℕ} {s₀ : Frames} {all : List ℕ} {k : ℕ} {s : Frames} {
       (sofar .goes listed None (subst (λ ls. Plays k s ls listed None) (sym (ap lines (nil-from-length rest none))) (lists-the-frames lists)))
 
 -- the first line
-pub file-not-chosen : (bs text : List ℕ) → text ≡ [] → Flat-line (first-line bs) None → Replays (lines bs) text (unread 1 Setup)
-file-not-chosen [] text none other = subst (λ (x : List ℕ). Replays [] x (unread 1 Setup)) (sym none) empty
-file-not-chosen (b ∷ bs) text none other =
-    subst (λ ls. Replays ls text (unread 1 Setup)) (sym (lines-cut (b ∷ bs) (omega arith)))
-    (subst (λ (x : List ℕ). Replays (first-line (b ∷ bs) ∷ lines (after-line (b ∷ bs))) x (unread 1 Setup)) (sym none) (no-file other))
+no-setup : (bs : List ℕ) → Flat-line (first-line bs) None → Replays (lines bs) [] (unread 1 Setup)
+no-setup [] other = empty
+no-setup (b ∷ bs) other = subst (λ ls. Replays ls [] (unread 1 Setup)) (sym (lines-cut (b ∷ bs) (omega arith))) (no-file other)
+
+pub file-not-chosen : (bs text : List ℕ) (f : Option LineFault) → Flat-line (first-line bs) None → text ≡ [] → f ≡ unread 1 Setup → Replays (lines bs) text f
+file-not-chosen bs text f other none named =
+    subst (λ (x : List ℕ). Replays (lines bs) x f) (sym none) (subst (λ (x : Option LineFault). Replays (lines bs) [] x) (sym named) (no-setup bs other))
 
 -- a text that chooses a file is not empty
 chosen : (bs : List ℕ) (n : ℕ) → first-line bs ≡ flat-text n → 0 < length bs

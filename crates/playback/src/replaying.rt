@@ -8,7 +8,7 @@ ghost use Rattle.std.specs.declared.option.Option.the-variants.{None};
 ghost use Rattle.refusal.specs.Refusals.{setup-refusal};
 ghost use Rattle.refusal.specs.Texts.{refusal-text};
 ghost use Rattle.trace.specs.Lines.{lines};
-ghost use Rattle.playback.specs.Playing.{ended, Plays, Replays, One-outcome};
+ghost use Rattle.playback.specs.Playing.{ended, unread, Plays, Replays, One-outcome};
 use crate::faults::Expected;
 use crate::faults::LineFault;
 use frames::calls::perform;
@@ -39,18 +39,23 @@ pub fn replay(heap: Global, trace: &[u8]) -> Result<Playback, AllocError>
 {
     let (setup, requests) = split_line(trace);
     let Some(capacity) = read_flat(setup) else {
-        let fault = LineFault {
-            line: 1,
-            expected: Expected::Setup,
-        };
-        return Ok(Playback {
-            text: String::new(heap),
-            fault: Some(fault),
-        });
+        return Ok(broken_off(String::new(heap), 1, Expected::Setup));
     };
     match FlatFile::new(capacity) {
         Ok(file) => play(heap, file, requests, 2),
         Err(fault) => refused(heap, fault),
+    }
+}
+
+// The line is none of those expected there.
+fn broken_off(text: String, line: u64, expected: Expected) -> Playback
+    ensures keeps_the_text { λ p. ⌜ p .text ≡ text ⌝ }
+    ensures names_the_line { λ p. ⌜ p .fault ≡ unread line expected ⌝ }
+{
+    let fault = LineFault { line, expected };
+    Playback {
+        text,
+        fault: Some(fault),
     }
 }
 
@@ -79,14 +84,7 @@ fn play<F: RegisterFile + Drop>(
     while !rest.is_empty() {
         let (request, after) = split_line(rest);
         let Some(call) = read_call(request) else {
-            let fault = LineFault {
-                line,
-                expected: Expected::Request,
-            };
-            return Ok(Playback {
-                text,
-                fault: Some(fault),
-            });
+            return Ok(broken_off(text, line, Expected::Request));
         };
         let answer = perform(&mut file, call);
         match writeln!(text, "{answer}") {

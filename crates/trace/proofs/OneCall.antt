@@ -1,6 +1,7 @@
 -- No two calls have one text: the call can be read off it.
 use mathlib.Core.Bool.{cond}
 use mathlib.Core.List.{List, _∷_, _++_}
+use mathlib.Core.Logic.{inl, inr}
 use mathlib.Core.Path.{_≡_, refl, sym, ap, _∙_}
 use Prim.Native.Nat.{ℕ, _+_, _^_, _<_}
 use native.Mathlib.Omega.{arith}
@@ -46,8 +47,10 @@ decodes : (c : Call) → Small-call c → decoded (call-text c) ≡ c
 unfolding decoded
 decodes Save small = refl
 decodes Restore small = refl
-decodes (Read r) small = ap Read (number-is r small)
-decodes (Write r v) small =
+decodes (Read r) (inl other) = absurd other
+decodes (Read r) (inr small) = ap Read (number-is r small)
+decodes (Write r v) (inl other) = absurd other
+decodes (Write r v) (inr small) =
     let parts = pair-is (r, v) small in
     λ i. Write ((ap (value 10) (parts .0) ∙ number-is r (small .0)) i) ((ap (value 10) (parts .1) ∙ number-is v (small .1)) i)
 decodes Depth small = refl

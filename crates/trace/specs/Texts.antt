@@ -1,6 +1,7 @@
 -- The texts of a trace's requests, and what it is to read one. `decimal n` is what `{n}` writes.
 use mathlib.Core.Path.{_≡_}
 use mathlib.Core.List.{List, _++_}
+use mathlib.Core.Logic.{_⊎_}
 use Prim.Native.Nat.{ℕ, _^_, _<_}
 use lib.Chars.{codes}
 use lib.ListN.{length, getD}
@@ -30,14 +31,27 @@ call-text (Write r v) = codes "write " ++ (decimal r ++ (codes " " ++ decimal v)
 call-text Depth = codes "depth"
 call-text Spare = codes "spare"
 
--- the numbers of a call fit in 32 bits
+-- the calls that are one word
+abbrev pub Bare : Call → Type 0
+Bare Save = Unit {0}
+Bare Restore = Unit {0}
+Bare (Read r) = ⊥
+Bare (Write r v) = ⊥
+Bare Depth = Unit {0}
+Bare Spare = Unit {0}
+
+-- the calls with numbers, which fit in 32 bits
+abbrev pub Numbered : Call → Type 0
+Numbered Save = ⊥
+Numbered Restore = ⊥
+Numbered (Read r) = r < 2 ^ 32
+Numbered (Write r v) = (r < 2 ^ 32) × (v < 2 ^ 32)
+Numbered Depth = ⊥
+Numbered Spare = ⊥
+
+-- any call, with its numbers, if it has some, below 2^32
 abbrev pub Small-call : Call → Type 0
-Small-call Save = Unit {0}
-Small-call Restore = Unit {0}
-Small-call (Read r) = r < 2 ^ 32
-Small-call (Write r v) = (r < 2 ^ 32) × (v < 2 ^ 32)
-Small-call Depth = Unit {0}
-Small-call Spare = Unit {0}
+Small-call c = Bare c ⊎ Numbered c
 
 -- `flat 256`
 abbrev pub flat-text : ℕ → List ℕ

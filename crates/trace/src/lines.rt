@@ -14,12 +14,18 @@ pub(crate) fn first_of(text: &[u8], byte: u8) -> usize
     text.len()
 }
 
+fn line_end(text: &[u8]) -> usize
+    ensures { λ r. ⌜ First (now (text .entry)) 10 r ⌝ }
+{
+    first_of(text, b'\n')
+}
+
 // The first line of a text, and what follows its end.
 pub fn split_line(text: &[u8]) -> (&[u8], &[u8])
     ensures gives_the_first_line { λ r. ⌜ now (r .0) ≡ first-line (now (text .entry)) ⌝ }
     ensures gives_what_follows { λ r. ⌜ now (r .1) ≡ after-line (now (text .entry)) ⌝ }
 {
-    let end = first_of(text, b'\n');
+    let end = line_end(text);
     if end == text.len() {
         return (text, &text[end..]);
     }

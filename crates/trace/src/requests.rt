@@ -1,6 +1,6 @@
 // The requests of a trace.
 ghost use Prim.Native.Nat.{_^_, _<_};
-ghost use Rattle.trace.specs.Texts.{Reads, Small-pair, pair-text, Small-call, call-text, flat-text};
+ghost use Rattle.trace.specs.Texts.{Reads, Small-pair, pair-text, Bare, Numbered, Small-call, call-text, flat-text};
 use crate::lines::first_of;
 use crate::numbers::read_number;
 use frames::calls::Call;
@@ -18,8 +18,9 @@ fn read_pair(text: &[u8]) -> Option<(u32, u32)>
     Some((left, right))
 }
 
-pub fn read_call(line: &[u8]) -> Option<Call>
-    ensures { λ r. ⌜ Reads Small-call call-text (now (line .entry)) r ⌝ }
+// A call of one word.
+fn read_word(line: &[u8]) -> Option<Call>
+    ensures { λ r. ⌜ Reads Bare call-text (now (line .entry)) r ⌝ }
 {
     if line == b"save" {
         return Some(Call::Save);
@@ -33,6 +34,13 @@ pub fn read_call(line: &[u8]) -> Option<Call>
     if line == b"spare" {
         return Some(Call::Spare);
     }
+    None
+}
+
+// A call with numbers.
+fn read_numbered(line: &[u8]) -> Option<Call>
+    ensures { λ r. ⌜ Reads Numbered call-text (now (line .entry)) r ⌝ }
+{
     if let Some(register) = line.strip_prefix(b"read ") {
         return Some(Call::Read(read_number(register)?));
     }
@@ -41,6 +49,15 @@ pub fn read_call(line: &[u8]) -> Option<Call>
         return Some(Call::Write(register, value));
     }
     None
+}
+
+pub fn read_call(line: &[u8]) -> Option<Call>
+    ensures { λ r. ⌜ Reads Small-call call-text (now (line .entry)) r ⌝ }
+{
+    match read_word(line) {
+        Some(call) => Some(call),
+        None => read_numbered(line),
+    }
 }
 
 pub fn read_flat(line: &[u8]) -> Option<u32>

@@ -9,4 +9,4 @@ unfolding digits word with-word saved restored
 worked-examples-hold = (refl, (refl, (refl, (refl, tt))))
 
 pub returns : need.returns
-returns c = record { counts-the-table = refl; every-example-holds = worked-examples-hold }
+returns c = record { counts-the-table = c .table-size .ensures; every-example-holds = worked-examples-hold }

@@ -2,9 +2,9 @@
 ghost use mathlib.Core.Path.{_≡_};
 ghost use Prim.Native.Nat.{_+_, _-_, _<_, _≤_};
 ghost use lib.ListN.{replicate, set};
+ghost use Rattle.std.specs.Vec.{made};
 ghost use Rattle.std.specs.shelf.Lists.{paste};
 ghost use Rattle.frames.specs.Flat.{flat-state, flat-opened, flat-caller, flat-place, base, Makes-flat-file};
-ghost use Rattle.std.specs.Vec.{made};
 ghost use Rattle.frames.specs.FlatShape.{flat-shape};
 use super::FlatFile;
 use crate::file::RegisterFile;
@@ -31,6 +31,13 @@ impl FlatFile {
         ensures { λ n. ⌜ n ≡ now (self .entry) .top + 1 ⌝ }
     {
         self.top + 1
+    }
+
+    // How many frames more there may be.
+    fn room(&self) -> u32
+        ensures { λ n. ⌜ n ≡ now (self .entry) .capacity - (now (self .entry) .top + 1) ⌝ }
+    {
+        self.capacity - self.frames()
     }
 
     // The frame that a save opens.
@@ -128,6 +135,6 @@ pub impl RegisterFile for FlatFile as FlatRegisterFile {
     }
 
     fn spare(&self) -> u32 {
-        self.capacity - self.frames()
+        self.room()
     }
 }

@@ -15,8 +15,9 @@ loop-rest-holds g c = starts _ _ _ _ (c .pre) (c .new-text .ensures .bytes)
 pub returns-in-rest : need.returns-in-rest
 returns-in-rest g c =
     let parts = c .split-line .ensures in
+    let off = c .broken-off .ensures in
     let some : 0 < length (c .loop-rest .rest .now) = omega (arith, false-eqb _ 0 (c .loop-rest-test .ensures tt)) in
-    no-call-here (c .loop-rest .inv) (c .split-line .result .0 .now) (c .split-line .result .1 .now) (parts .gives-the-first-line) (parts .gives-what-follows) some (c .in-rest .ensures tt)
+    no-call-here (c .loop-rest .inv) (c .split-line .result .0 .now) (c .split-line .result .1 .now) (parts .gives-the-first-line) (parts .gives-what-follows) some (c .in-rest .ensures tt) _ _ (ap string-bytes (off .keeps-the-text)) (off .names-the-line)
 
 pub loop-rest-less : need.loop-rest-less
 loop-rest-less g c =

@@ -1,4 +1,5 @@
 use mathlib.Core.Path.{subst, ap, _∙_}
+use Rattle.std.specs.Of.String.{string-bytes}
 use Rattle.std.proofs.shelf.Results.{made-weaker}
 use Rattle.std.specs.declared.option.Option.the-variants.{None}
 use Rattle.refusal.specs.declared.faults.SetupFault.{SetupFault}
@@ -12,8 +13,9 @@ use Rattle.playback.proofs.replaying.replay.Needs as need
 pub returns-in-rest : need.returns-in-rest
 returns-in-rest c =
     let front = c .split-line .ensures .gives-the-first-line in
+    let off = c .broken-off .ensures in
     record {
-      replays-every-line = file-not-chosen (c .args .trace .now) _ (c .new .ensures .bytes) (subst (λ l. Flat-line l None) front (c .in-rest .ensures tt));
+      replays-every-line = file-not-chosen (c .args .trace .now) _ _ (subst (λ l. Flat-line l None) front (c .in-rest .ensures tt)) (ap string-bytes (off .keeps-the-text) ∙ c .new .ensures .bytes) (off .names-the-line);
       no-trace-has-two-outcomes = one-outcome;
     }
 
