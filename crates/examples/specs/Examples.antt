@@ -10,14 +10,17 @@ use Rattle.frames.specs.Frames.{fresh}
 use Rattle.frames.specs.Calls.{answers-to}
 use Rattle.frames.specs.Texts.{answer-text}
 
+-- one example
 pub record Example : Type 0 where
   pub capacity : ℕ
   pub calls : List Call
   pub printed : List (List ℕ)
 
+-- an example by its three parts
 abbrev pub example : ℕ → List Call → List (List ℕ) → Example
 example capacity calls printed = record { capacity = capacity; calls = calls; printed = printed }
 
+-- the table
 abbrev pub worked : List Example
 worked =
     -- a caller's out is its callee's in, and the callee's outs are 0
@@ -30,8 +33,10 @@ worked =
     ∷ example 2 (Restore ∷ []) (codes "refused 3 File at 1" ∷ [])
     ∷ []
 
+-- the answers are printed so
 abbrev pub Holds : Example → Type 0
 Holds e = map answer-text (answers-to (fresh (e .capacity)) (e .calls)) ≡ e .printed
 
+-- the theorem over the table
 abbrev pub Worked-examples-hold : Type 0
 Worked-examples-hold = All Holds worked

@@ -12,14 +12,17 @@ use Rattle.frames.specs.declared.calls.Answer.{Answer}
 use Rattle.frames.specs.declared.calls.Answer.the-variants.{Accepted, Word, Depth, Spare, Refused}
 use Rattle.frames.specs.Frames.{Frames, read-answer, write-answer, write-after, save-answer, save-after, restore-answer, restore-after, told-depth, told-spare}
 
+-- what save, restore and write answer
 abbrev pub acceptance : Result (Unit {0}) FileFault → Answer
 acceptance (Ok done) = Accepted
 acceptance (Err fault) = Refused fault
 
+-- what read answers
 abbrev pub reading : Result ℕ FileFault → Answer
 reading (Ok w) = Word w
 reading (Err fault) = Refused fault
 
+-- the answer to a call
 abbrev pub answer-to : Frames → Call → Answer
 answer-to s Save = acceptance (save-answer s)
 answer-to s Restore = acceptance (restore-answer s)
@@ -28,6 +31,7 @@ answer-to s (Write r v) = acceptance (write-answer r)
 answer-to s call.Depth = Depth (told-depth s)
 answer-to s call.Spare = Spare (told-spare s)
 
+-- the frames after a call
 abbrev pub after-call : Frames → Call → Frames
 after-call s Save = save-after s
 after-call s Restore = restore-after s
@@ -45,6 +49,7 @@ abbrev pub after-calls : Frames → List Call → Frames
 after-calls s [] = s
 after-calls s (c ∷ cs) = after-calls (after-call s c) cs
 
+-- whether an answer refuses
 abbrev pub is-refusal : Answer → Bool
 is-refusal Accepted = false
 is-refusal (Word w) = false

@@ -17,12 +17,15 @@ use Rattle.frames.specs.declared.frame.Frame.{Frame}
 use Rattle.frames.specs.declared.flat.FlatFile.{FlatFile}
 use Rattle.frames.specs.Frames.{Frames, frame-of, fresh, is-windowed}
 
+-- where frame i's window begins
 abbrev pub base : ℕ → ℕ
 base i = 16 * (255 - i)
 
+-- the group of words from a place on
 abbrev pub eight : List ℕ → ℕ → List ℕ
 eight ws at = take 8 (drop at ws)
 
+-- frame i
 abbrev pub frame-at : List ℕ → ℕ → Frame
 frame-at ws i = frame-of (eight ws (base i + 16)) (eight ws (base i + 8))
 
@@ -30,6 +33,7 @@ frame-at ws i = frame-of (eight ws (base i + 16)) (eight ws (base i + 8))
 abbrev pub flat-frames : List ℕ → ℕ → ℕ → Frames
 flat-frames ws top capacity = record { older = map (frame-at ws) (counting 0 top); newest = frame-at ws top; outs = eight ws (base top); capacity = capacity }
 
+-- what a flat file stands for
 abbrev pub flat-state : FlatFile → Frames
 flat-state f = flat-frames (f .words) (f .top) (f .capacity)
 
@@ -44,6 +48,7 @@ flat-caller top = cond (ltb 0 top) (Ok (top - 1)) (Err (LastFrame 1))
 abbrev pub flat-place : ℕ → ℕ → Result ℕ FileFault
 flat-place top r = cond (is-windowed r) (Ok (base top + (r - 8))) (Err (NoSuchRegister r))
 
+-- capacities from 1 to 256
 abbrev pub is-flat-capacity : ℕ → Bool
 is-flat-capacity n = leb 1 n && leb n 256
 

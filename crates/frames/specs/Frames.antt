@@ -23,12 +23,15 @@ pub record Frames : Type 0 where
 abbrev pub all-frames : Frames → List Frame
 all-frames s = s .older ++ s .newest ∷ []
 
+-- how many frames there are
 abbrev pub depth-of : Frames → ℕ
 depth-of s = length (s .older) + 1
 
+-- a group of eight words, all 0
 abbrev pub zeros : List ℕ
 zeros = replicate 8 0
 
+-- a frame by its two groups
 abbrev pub frame-of : List ℕ → List ℕ → Frame
 frame-of ins locals = record { ins = ins; locals = locals }
 
@@ -36,6 +39,7 @@ frame-of ins locals = record { ins = ins; locals = locals }
 abbrev pub fresh : ℕ → Frames
 fresh capacity = record { older = []; newest = frame-of zeros zeros; outs = zeros; capacity = capacity }
 
+-- a frame has eight words in each group
 abbrev pub Eight : Frame → Type 0
 Eight f = (length (f .ins) ≡ 8) × (length (f .locals) ≡ 8)
 
@@ -46,10 +50,11 @@ pub record Shaped (s : Frames) : Type 0 where
   pub outs-eight : length (s .outs) ≡ 8
   pub within : depth-of s ≤ s .capacity
 
--- depth and spare as they are told
+-- the depth as it is told
 abbrev pub told-depth : Frames → ℕ
 told-depth s = min 65536 (depth-of s)
 
+-- how many frames more there may be, as it is told
 abbrev pub told-spare : Frames → ℕ
 told-spare s = min 65535 (s .capacity - depth-of s)
 
@@ -63,21 +68,25 @@ word s r =
     cond (ltb r 16) (getD (s .outs) (r - 8) 0)
     (cond (ltb r 24) (getD (s .newest .locals) (r - 16) 0) (getD (s .newest .ins) (r - 24) 0))
 
+-- the same frames with other outs, and with another newest frame
 abbrev pub with-outs : Frames → List ℕ → Frames
 with-outs s outs = record { older = s .older; newest = s .newest; outs = outs; capacity = s .capacity }
 
 abbrev pub with-newest : Frames → Frame → Frames
 with-newest s newest = record { older = s .older; newest = newest; outs = s .outs; capacity = s .capacity }
 
+-- one word changed, by the same groups
 unfoldable pub with-word : Frames → ℕ → ℕ → Frames
 with-word s r v =
     cond (ltb r 16) (with-outs s (set (s .outs) (r - 8) v))
     (cond (ltb r 24) (with-newest s (frame-of (s .newest .ins) (set (s .newest .locals) (r - 16) v)))
     (with-newest s (frame-of (set (s .newest .ins) (r - 24) v) (s .newest .locals))))
 
+-- read
 abbrev pub read-answer : Frames → ℕ → Result ℕ FileFault
 read-answer s r = cond (is-windowed r) (Ok (word s r)) (Err (NoSuchRegister r))
 
+-- write
 abbrev pub write-answer : ℕ → Result (Unit {0}) FileFault
 write-answer r = cond (is-windowed r) (Ok tt) (Err (NoSuchRegister r))
 
@@ -88,6 +97,7 @@ write-after s r v = cond (is-windowed r) (with-word s r v) s
 unfoldable pub saved : Frames → Frames
 saved s = record { older = all-frames s; newest = frame-of (s .outs) zeros; outs = zeros; capacity = s .capacity }
 
+-- save is refused exactly at capacity
 abbrev pub is-full : Frames → Bool
 is-full s = leb (s .capacity) (depth-of s)
 
@@ -111,6 +121,7 @@ restored s =
       capacity = s .capacity;
     }
 
+-- restore is refused exactly when one frame is left
 abbrev pub is-last : Frames → Bool
 is-last s = eqb (depth-of s) 1
 

@@ -1,4 +1,4 @@
--- Laws of register files of every make, over the definitions that their contracts cite.
+-- Laws of every register file, over the definitions that the contracts cite.
 use mathlib.Core.Bool.{true}
 use mathlib.Core.List.{List, [], _∷_}
 use mathlib.Core.Path.{_≡_}
@@ -15,9 +15,11 @@ pub record Performed (s : Frames) (c : Call) (a : Answer) (t : Frames) : Type 0 
   pub refused-changes-nothing : is-refusal a ≡ true → t ≡ s
   pub keeps-the-capacity : t .capacity ≡ s .capacity
 
+-- a refused call leaves the frames, the outs and the capacity as they were
 abbrev pub Refusals-change-nothing : Type 0
 Refusals-change-nothing = (s : Frames) (c : Call) → is-refusal (answer-to s c) ≡ true → after-call s c ≡ s
 
+-- no call changes the capacity
 abbrev pub Capacity-is-fixed : Type 0
 Capacity-is-fixed = (s : Frames) (c : Call) → after-call s c .capacity ≡ s .capacity
 
@@ -42,6 +44,7 @@ abbrev pub Callers-keep-their-frames : Type 0
 Callers-keep-their-frames =
     (s : Frames) (cs : List Call) → Stays-above (depth-of s) (saved s) cs → depth-of (after-calls (saved s) cs) ≡ depth-of s + 1 → all-frames (restored (after-calls (saved s) cs)) ≡ all-frames s
 
+-- all of them
 pub record Frame-laws : Type 0 where
   pub refusals-change-nothing : Refusals-change-nothing
   pub capacity-is-fixed : Capacity-is-fixed

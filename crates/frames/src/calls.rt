@@ -60,7 +60,7 @@ fn dispatch<F: RegisterFile>(file: &mut F, call: Call) -> Answer
     }
 }
 
-// Makes one call on a file of any make.
+// Performs one call on any register file.
 pub fn perform<F: RegisterFile>(file: &mut F, call: Call) -> Answer
     ensures performs_the_call { λ a. ⌜ Performed (state (now (file .entry))) call a (state (now (file .exit))) ⌝ }
     ensures frames_keep_their_laws { λ _. ⌜ Frame-laws ⌝ }

@@ -1,3 +1,3 @@
-// The frames that a register file of any make is left with, as text.
+// The frames that a register file is left with, as text.
 pub mod texts;
 pub mod unwinding;

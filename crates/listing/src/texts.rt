@@ -11,7 +11,7 @@ use frames::frame::Frame;
 use std::alloc::AllocError;
 use std::alloc::Global;
 
-// A line for each frame, oldest first, and one for the outs of the newest.
+// A line for each frame, oldest first, and one for the outs of the newest. Only when memory runs out is left open.
 pub fn listing<F: RegisterFile + Drop>(heap: Global, file: F) -> Result<String, AllocError>
     ensures { λ r. ⌜ made r (λ t. string-bytes t ≡ listing-text (F·RegisterFile .state file)) ⌝ }
 {

@@ -1,5 +1,5 @@
 // A register file taken apart, frame by frame.
-ghost use mathlib.Core.List.{reverse};
+ghost use mathlib.Core.List.{[], _∷_, _++_, reverse};
 ghost use mathlib.Core.Path.{_≡_};
 ghost use Prim.Native.Nat.{_≤_};
 ghost use Rattle.frames.specs.Frames.{all-frames};
@@ -11,19 +11,26 @@ use frames::frame::Frame;
 use std::alloc::AllocError;
 use std::alloc::Global;
 
-// Every frame of the file, newest first.
+// Every frame of the file, newest first. Only when memory runs out is left open.
 pub fn unwind<F: RegisterFile + Drop>(heap: Global, mut file: F) -> Result<Vec<Frame>, AllocError>
     ensures { λ r. ⌜ made r (λ v. vec-items v ≡ reverse (all-frames (F·RegisterFile .state file))) ⌝ }
 {
     let mut frames = Vec::new(heap);
     loop {
-        frames.push(newest(&file))?;
+        add_newest(&mut frames, &file)?;
         match file.restore() {
             Ok(()) => {}
             // Only the oldest frame cannot be closed.
             Err(_) => return Ok(frames),
         }
     }
+}
+
+fn add_newest<F: RegisterFile>(frames: &mut Vec<Frame>, file: &F) -> Result<(), AllocError>
+    ensures { λ r. ⌜ made r (λ _. vec-items (now (frames .exit)) ≡ vec-items (now (frames .entry)) ++ F·RegisterFile .state (now (file .entry)) .newest ∷ []) ⌝ }
+{
+    frames.push(newest(file))?;
+    Ok(())
 }
 
 // The newest frame, read register by register.

@@ -23,6 +23,7 @@ use Rattle.playback.specs.declared.faults.LineFault.{LineFault}
 abbrev pub ended : List ℕ → List ℕ
 ended text = text ++ (10 ∷ [])
 
+-- line k is none of the forms expected
 abbrev pub unread : ℕ → Expected → Option LineFault
 unread k e = Some (record { line = k; expected = e })
 

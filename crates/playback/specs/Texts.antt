@@ -7,6 +7,7 @@ use Rattle.playback.specs.declared.faults.Expected.{Expected}
 use Rattle.playback.specs.declared.faults.Expected.the-variants.{Setup, Request}
 use Rattle.playback.specs.declared.faults.LineFault.{LineFault}
 
+-- the forms that a line may have
 abbrev pub expected-text : Expected → List ℕ
 expected-text Setup = codes "flat N, with N from 1 to 256"
 expected-text Request = codes "save, restore, read R, write R V, depth or spare, with R and V from 0 to 4294967295"

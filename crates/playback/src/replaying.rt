@@ -32,7 +32,7 @@ pub struct Playback {
     pub fault: Option<LineFault>,
 }
 
-// Replays a whole trace on the file that its first line chooses.
+// Replays a whole trace on the file that its first line chooses. Only when memory runs out is left open.
 pub fn replay(heap: Global, trace: &[u8]) -> Result<Playback, AllocError>
     ensures replays_every_line { λ r. ⌜ made r (λ p. Replays (lines (now (trace .entry))) (string-bytes (p .text)) (p .fault)) ⌝ }
     ensures no_trace_has_two_outcomes { λ _. ⌜ One-outcome ⌝ }

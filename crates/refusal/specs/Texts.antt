@@ -7,6 +7,7 @@ use Rattle.refusal.specs.declared.layers.Layer.{Layer}
 use Rattle.refusal.specs.declared.layers.Layer.the-variants.{File, Setup, Store, Records, Machine}
 use Rattle.refusal.specs.declared.refusals.Refusal.{Refusal}
 
+-- a layer's name
 abbrev pub layer-name : Layer → List ℕ
 layer-name File = codes "File"
 layer-name Setup = codes "Setup"

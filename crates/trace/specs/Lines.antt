@@ -25,6 +25,7 @@ abbrev pub after : ℕ → List ℕ → List ℕ
 after byte [] = []
 after byte (b ∷ bs) = cond (eqb b byte) bs (after byte bs)
 
+-- a text's first line, and what follows its end
 abbrev pub first-line : List ℕ → List ℕ
 first-line = before 10
 

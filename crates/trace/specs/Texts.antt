@@ -19,6 +19,7 @@ Plain bs = (0 < length bs) × (getD bs 0 0 ≡ 43 → ⊥) × (getD bs 0 0 ≡ 4
 abbrev pub pair-text : ℕ × ℕ → List ℕ
 pair-text p = decimal (p .0) ++ (codes " " ++ decimal (p .1))
 
+-- both numbers fit in 32 bits
 abbrev pub Small-pair : ℕ × ℕ → Type 0
 Small-pair p = (p .0 < 2 ^ 32) × (p .1 < 2 ^ 32)
 
