@@ -13,7 +13,7 @@ use std::alloc::Global;
 
 // A line for each frame, oldest first, and one for the outs of the newest. Only when memory runs out is left open.
 pub fn listing<F: RegisterFile + Drop>(heap: Global, file: F) -> Result<String, AllocError>
-    ensures { λ r. ⌜ made r (λ t. string-bytes t ≡ listing-text (F·RegisterFile .state file)) ⌝ }
+    ensures lists_every_frame_and_the_outs { λ r. ⌜ made r (λ t. string-bytes t ≡ listing-text (F·RegisterFile .state file)) ⌝ }
 {
     // Unwinding changes the outs, so they are read before.
     let words = outs(&file);

@@ -13,7 +13,7 @@ use std::alloc::Global;
 
 // Every frame of the file, newest first. Only when memory runs out is left open.
 pub fn unwind<F: RegisterFile + Drop>(heap: Global, mut file: F) -> Result<Vec<Frame>, AllocError>
-    ensures { λ r. ⌜ made r (λ v. vec-items v ≡ reverse (all-frames (F·RegisterFile .state file))) ⌝ }
+    ensures gives_every_frame { λ r. ⌜ made r (λ v. vec-items v ≡ reverse (all-frames (F·RegisterFile .state file))) ⌝ }
 {
     let mut frames = Vec::new(heap);
     loop {

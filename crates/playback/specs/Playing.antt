@@ -2,7 +2,7 @@
 use mathlib.Core.Bool.{true, false}
 use mathlib.Core.List.{List, [], _∷_, _++_}
 use mathlib.Core.Path.{_≡_}
-use Prim.Native.Nat.{ℕ, _+_, _^_, _<_}
+use Prim.Native.Nat.{ℕ, _+_}
 use Rattle.std.specs.declared.option.Option.{Option}
 use Rattle.std.specs.declared.option.Option.the-variants.{Some, None}
 use Rattle.refusal.specs.declared.faults.SetupFault.the-variants.{FlatCapacity}
@@ -13,7 +13,7 @@ use Rattle.frames.specs.Frames.{Frames, fresh}
 use Rattle.frames.specs.Calls.{answer-to, after-call}
 use Rattle.frames.specs.Flat.{is-flat-capacity}
 use Rattle.frames.specs.Texts.{answer-text}
-use Rattle.trace.specs.Texts.{Reads, Small-call, call-text, flat-text}
+use Rattle.trace.specs.Texts.{Reads, Small, Small-call, call-text, flat-text}
 use Rattle.listing.specs.Listing.{listing-text}
 use Rattle.playback.specs.declared.faults.Expected.{Expected}
 use Rattle.playback.specs.declared.faults.Expected.the-variants.{Setup, Request}
@@ -32,7 +32,7 @@ abbrev pub Call-line : List ℕ → Option Call → Type 0
 Call-line = Reads Small-call call-text
 
 abbrev pub Flat-line : List ℕ → Option ℕ → Type 0
-Flat-line = Reads (λ n. n < 2 ^ 32) flat-text
+Flat-line = Reads Small flat-text
 
 -- the lines from number k on, met by the frames s, print the text; a line that is no call ends it
 pub data Plays : ℕ → Frames → List (List ℕ) → List ℕ → Option LineFault → Type 0 where

@@ -17,7 +17,7 @@ pub enum FileFault {
 
 impl FileFault {
     pub fn refusal(self) -> Refusal
-        ensures { λ r. ⌜ r ≡ file-refusal self ⌝ }
+        ensures reports_its_number_layer_and_place { λ r. ⌜ r ≡ file-refusal self ⌝ }
     {
         let (number, place) = match self {
             FileFault::NoSuchRegister(register) => (1, register),
@@ -41,7 +41,7 @@ pub enum SetupFault {
 
 impl SetupFault {
     pub fn refusal(self) -> Refusal
-        ensures { λ r. ⌜ r ≡ setup-refusal self ⌝ }
+        ensures reports_its_number_layer_and_place { λ r. ⌜ r ≡ setup-refusal self ⌝ }
     {
         let (number, place) = match self {
             SetupFault::FlatCapacity(capacity) => (9, capacity),

@@ -15,20 +15,24 @@ use Rattle.frames.specs.declared.calls.Call.the-variants.{Save, Restore, Read, 
 abbrev pub Plain : List ℕ → Type 0
 Plain bs = (0 < length bs) × (getD bs 0 0 ≡ 43 → ⊥) × (getD bs 0 0 ≡ 48 → length bs ≡ 1)
 
+-- a number that fits in 32 bits
+abbrev pub Small : ℕ → Type 0
+Small n = n < 2 ^ 32
+
 -- two numbers, one space between
 abbrev pub pair-text : ℕ × ℕ → List ℕ
 pair-text p = decimal (p .0) ++ (codes " " ++ decimal (p .1))
 
 -- both numbers fit in 32 bits
 abbrev pub Small-pair : ℕ × ℕ → Type 0
-Small-pair p = (p .0 < 2 ^ 32) × (p .1 < 2 ^ 32)
+Small-pair p = Small (p .0) × Small (p .1)
 
 -- `write 8 17`
 abbrev pub call-text : Call → List ℕ
 call-text Save = codes "save"
 call-text Restore = codes "restore"
 call-text (Read r) = codes "read " ++ decimal r
-call-text (Write r v) = codes "write " ++ (decimal r ++ (codes " " ++ decimal v))
+call-text (Write r v) = codes "write " ++ pair-text (r, v)
 call-text Depth = codes "depth"
 call-text Spare = codes "spare"
 
@@ -45,8 +49,8 @@ Bare Spare = Unit {0}
 abbrev pub Numbered : Call → Type 0
 Numbered Save = ⊥
 Numbered Restore = ⊥
-Numbered (Read r) = r < 2 ^ 32
-Numbered (Write r v) = (r < 2 ^ 32) × (v < 2 ^ 32)
+Numbered (Read r) = Small r
+Numbered (Write r v) = Small-pair (r, v)
 Numbered Depth = ⊥
 Numbered Spare = ⊥
 

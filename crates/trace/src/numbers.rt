@@ -1,8 +1,7 @@
 // A number as a trace writes it.
-ghost use Prim.Native.Nat.{_^_, _<_};
 ghost use Rattle.std.specs.Orderings.{Decides};
 ghost use Rattle.std.specs.Written.{decimal};
-ghost use Rattle.trace.specs.Texts.{Plain, Reads};
+ghost use Rattle.trace.specs.Texts.{Plain, Reads, Small};
 use std::str;
 
 // `parse` would take a plus and leading zeros, which no number is written with.
@@ -17,7 +16,7 @@ fn is_plain(text: &[u8]) -> bool
 
 // Reads back exactly the decimals of 32 bits: no sign, no leading zero, at least one digit.
 pub fn read_number(text: &[u8]) -> Option<u32>
-    ensures { λ r. ⌜ Reads (λ n. n < 2 ^ 32) decimal (now (text .entry)) r ⌝ }
+    ensures reads_exactly_the_decimals { λ r. ⌜ Reads Small decimal (now (text .entry)) r ⌝ }
 {
     if !is_plain(text) {
         return None;

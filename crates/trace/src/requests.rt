@@ -1,6 +1,5 @@
 // The requests of a trace.
-ghost use Prim.Native.Nat.{_^_, _<_};
-ghost use Rattle.trace.specs.Texts.{Reads, Small-pair, pair-text, Bare, Numbered, Small-call, call-text, flat-text};
+ghost use Rattle.trace.specs.Texts.{Reads, Small, Small-pair, pair-text, Bare, Numbered, Small-call, call-text, flat-text};
 use crate::lines::first_of;
 use crate::numbers::read_number;
 use frames::calls::Call;
@@ -52,7 +51,7 @@ fn read_numbered(line: &[u8]) -> Option<Call>
 }
 
 pub fn read_call(line: &[u8]) -> Option<Call>
-    ensures { λ r. ⌜ Reads Small-call call-text (now (line .entry)) r ⌝ }
+    ensures reads_exactly_the_calls { λ r. ⌜ Reads Small-call call-text (now (line .entry)) r ⌝ }
 {
     match read_word(line) {
         Some(call) => Some(call),
@@ -61,7 +60,7 @@ pub fn read_call(line: &[u8]) -> Option<Call>
 }
 
 pub fn read_flat(line: &[u8]) -> Option<u32>
-    ensures { λ r. ⌜ Reads (λ n. n < 2 ^ 32) flat-text (now (line .entry)) r ⌝ }
+    ensures reads_exactly_the_flat_files { λ r. ⌜ Reads Small flat-text (now (line .entry)) r ⌝ }
 {
     let Some(number) = line.strip_prefix(b"flat ") else {
         return None;

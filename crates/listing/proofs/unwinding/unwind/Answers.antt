@@ -13,5 +13,6 @@ loop-frames-again g c =
 
 pub returns-in-Err : need.returns-in-Err
 returns-in-Err g c =
-    end (g .F·RegisterFile .state (c .loop-frames .file)) _ (vec-items (c .loop-frames .frames)) (vec-items (c .add-newest .last .frames)) (c .loop-frames .inv) (c .in-Continue-add-newest .ensures tt) _
-    (c .in-Err .ensures tt .answers-as-the-frames-do)
+    let taken = c .in-Continue-add-newest .ensures tt in
+    let last = c .in-Err .ensures tt .answers-as-the-frames-do in
+    record { gives-every-frame = end (g .F·RegisterFile .state (c .loop-frames .file)) _ (vec-items (c .loop-frames .frames)) (vec-items (c .add-newest .last .frames)) (c .loop-frames .inv) taken _ last }

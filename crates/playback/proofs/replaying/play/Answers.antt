@@ -17,7 +17,7 @@ returns-in-rest g c =
     let parts = c .split-line .ensures in
     let off = c .broken-off .ensures in
     let some : 0 < length (c .loop-rest .rest .now) = omega (arith, false-eqb _ 0 (c .loop-rest-test .ensures tt)) in
-    no-call-here (c .loop-rest .inv) (c .split-line .result .0 .now) (c .split-line .result .1 .now) (parts .gives-the-first-line) (parts .gives-what-follows) some (c .in-rest .ensures tt) _ _ (ap string-bytes (off .keeps-the-text)) (off .names-the-line)
+    no-call-here (c .loop-rest .inv) (c .split-line .result .0 .now) (c .split-line .result .1 .now) (parts .gives-the-first-line) (parts .gives-what-follows) some (c .in-rest .ensures tt .reads-exactly-the-calls) _ _ (ap string-bytes (off .keeps-the-text)) (off .names-the-line)
 
 pub loop-rest-less : need.loop-rest-less
 loop-rest-less g c =
@@ -28,10 +28,10 @@ pub loop-rest-again : need.loop-rest-again
 loop-rest-again g c =
     let parts = c .split-line .ensures in
     let some : 0 < length (c .loop-rest .rest .now) = omega (arith, false-eqb _ 0 (c .loop-rest-test .ensures tt)) in
-    call-here (c .loop-rest .inv) (c .split-line .result .0 .now) (c .split-line .result .1 .now) (parts .gives-the-first-line) (parts .gives-what-follows) some _ _ _ _ (c .in-Some .ensures tt)
+    call-here (c .loop-rest .inv) (c .split-line .result .0 .now) (c .split-line .result .1 .now) (parts .gives-the-first-line) (parts .gives-what-follows) some _ _ _ _ (c .in-Some .ensures tt .reads-exactly-the-calls)
     (c .perform-answer .ensures .performs-the-call) (c .in-Ok .ensures tt .bytes)
 
 pub returns : need.returns
 returns g c =
-    no-more (c .loop-rest .inv) _ _ (true-eqb _ 0 (c .loop-rest-test .ensures tt)) (c .in-Continue-frames .ensures tt)
+    no-more (c .loop-rest .inv) _ _ (true-eqb _ 0 (c .loop-rest-test .ensures tt)) (c .in-Continue-frames .ensures tt .lists-every-frame-and-the-outs)
     (c .in-Continue-push-str .ensures tt .bytes ∙ ap (λ (l : List ℕ). string-bytes (c .loop-rest .text) ++ l) (c .as-str .ensures .value))

@@ -16,17 +16,17 @@ returns-then-space-text c x h e =
 pub returns-in-Break-left : need.returns-in-Break-left
 returns-in-Break-left c =
     rw (c .from-residual .ensures)
-    (λ x h e. c .in-Break-left .ensures tt (x .0) (h .0) (rw sub-zero (left-is _ _ x (c .first-of-space .ensures) h e)))
+    (λ x h e. c .in-Break-left .ensures tt .reads-exactly-the-decimals (x .0) (h .0) (rw sub-zero (left-is _ _ x (c .first-of-space .ensures) h e)))
 
 pub returns-in-Break-right : need.returns-in-Break-right
 returns-in-Break-right c =
     rw (c .from-residual-in-Break-right .ensures)
-    (λ x h e. c .in-Break-right .ensures tt (x .1) (h .1) (take-rest (c .args .text .now) (c .first-of-space .result + 1) ∙ right-is _ _ x (c .first-of-space .ensures) h e))
+    (λ x h e. c .in-Break-right .ensures tt .reads-exactly-the-decimals (x .1) (h .1) (take-rest (c .args .text .now) (c .first-of-space .result + 1) ∙ right-is _ _ x (c .first-of-space .ensures) h e))
 
 pub returns : need.returns
 returns c =
-    let l = c .in-Continue-left .ensures tt in
-    let r = c .in-Continue-right .ensures tt in
+    let l = c .in-Continue-left .ensures tt .reads-exactly-the-decimals in
+    let r = c .in-Continue-right .ensures tt .reads-exactly-the-decimals in
     let told = c .first-of-space .ensures in
     let here : c .first-of-space .result < length (c .args .text .now) = omega (arith, told .within) in
     let whole = parted (c .args .text .now) (c .first-of-space .result) 32 here (told .found here) in
