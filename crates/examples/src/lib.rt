@@ -1,4 +1,6 @@
 // The worked examples of the reference, shown to hold of the definitions that the contracts cite.
+#![tactic(auto)]
+
 ghost use Rattle.std.specs.Prelude.{◌≡◌, length};
 ghost use Rattle.examples.specs.Examples.{worked, WorkedExamplesHold};
 

@@ -48,8 +48,8 @@ impl Answer {
 }
 
 fn dispatch<F: RegisterFile>(file: &mut F, call: Call) -> Answer
-    ensures answers_as_the_frames_do { result ≡ answer_to (state file.old) call }
-    ensures holds_the_frames_after { state file.new ≡ after_call (state file.old) call }
+    ensures answers_as_the_frames_do { result ≡ answer_to (F.state file.old) call }
+    ensures holds_the_frames_after { F.state file.new ≡ after_call (F.state file.old) call }
 {
     match call {
         Call::Save => Answer::acceptance(file.save()),
@@ -63,7 +63,7 @@ fn dispatch<F: RegisterFile>(file: &mut F, call: Call) -> Answer
 
 // Performs one call on any register file.
 pub fn perform<F: RegisterFile>(file: &mut F, call: Call) -> Answer
-    ensures performs_the_call { Performed (state file.old) call result (state file.new) }
+    ensures performs_the_call { Performed (F.state file.old) call result (F.state file.new) }
     ensures frames_keep_their_laws { FrameLaws }
 {
     dispatch(file, call)

@@ -1,2 +1,4 @@
 // A script played on a register file.
+#![tactic(auto)]
+
 pub mod playing;

@@ -1,4 +1,6 @@
 // Spill policies: how many windows a ring moves at a trap.
+#![tactic(auto)]
+
 pub mod adaptive;
 pub mod fixed;
 pub mod policy;

@@ -1,4 +1,6 @@
 // Replays the trace on standard input, and prints each answer and the frames that are left.
+#![tactic(auto)]
+
 use playback::faults::LineFault;
 use playback::replaying::replay;
 use std::io::Read;

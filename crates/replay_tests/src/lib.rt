@@ -1,4 +1,6 @@
 // Replays that end early, which the program's own sample cannot show: its run has to end well.
+#![tactic(auto)]
+
 #[cfg(test)]
 mod tests {
     use playback::faults::Expected;

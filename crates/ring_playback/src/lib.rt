@@ -1,4 +1,6 @@
 // A trace replayed on a register file: what is printed, and the line that could not be read.
+#![tactic(auto)]
+
 mod beside;
 mod flats;
 pub mod replaying;

@@ -1,4 +1,6 @@
 // Replays that the program's own sample cannot show: rings of several sizes, and runs that end early.
+#![tactic(auto)]
+
 #[cfg(test)]
 mod tests {
     use playback::faults::Expected;

@@ -1,4 +1,6 @@
 // The requests of a trace, read from text.
+#![tactic(auto)]
+
 pub mod lines;
 pub mod numbers;
 pub mod requests;
