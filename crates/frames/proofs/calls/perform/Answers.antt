@@ -5,6 +5,6 @@ pub returns : goal.returns
 returns g c =
     let ok = c.dispatch.ensures in
     record {
-      performs-the-call = performed _ _ _ _ ok.answers_as_the_frames_do ok.holds_the_frames_after;
-      frames-keep-their-laws = frame_laws;
+      performs_the_call = performed _ _ _ _ ok.answers_as_the_frames_do ok.holds_the_frames_after;
+      frames_keep_their_laws = frame_laws;
     }

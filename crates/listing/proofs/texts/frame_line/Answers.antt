@@ -6,4 +6,4 @@ use Rattle.listing.proofs.texts.frame_line.Goals as goal
 
 pub returns : goal.returns
 returns c =
-    IfOk-weaker c.format.result _ (λ t. string_bytes t ≡ frame_line c.args.number c.args.frame) (λ t e. e ∙ line_with c.args.number c.args.frame _ _ c.in-ok-ins.ensures c.in-ok-locals.ensures) c.format.ensures.ok
+    IfOk-weaker c.format.result _ (λ t. string_bytes t ≡ frame_line c.args.number c.args.frame) (λ t e. e ∙ line_with c.args.number c.args.frame _ _ c.in_ok-ins.ensures c.in_ok-locals.ensures) c.format.ensures.ok

@@ -7,8 +7,8 @@ loop-i-preserved g c =
     let in_group : c.loop-i.i < 8 = omega arith in
     let low : 8 ≤ c.args.first + c.loop-i.i = omega arith in
     let high : c.args.first + c.loop-i.i < 32 = omega arith in
-    words_more (g.F.RegisterFile.state c.args.file.now) c.args.first c.loop-i.words c.loop-i.i c.unwrap-or.result in_group c.loop-i.invariant.0 c.loop-i.invariant.1
-    (read_word (g.F.RegisterFile.state c.args.file.now) (c.args.first + c.loop-i.i) c.read.result c.unwrap-or.result low high c.read.ensures.answers_as_the_frames_do c.unwrap-or.ensures)
+    words_more (g.F.RegisterFile.state c.args.file.now) c.args.first c.loop-i.words c.loop-i.i c.unwrap_or.result in_group c.loop-i.invariant.0 c.loop-i.invariant.1
+    (read_word (g.F.RegisterFile.state c.args.file.now) (c.args.first + c.loop-i.i) c.read.result c.unwrap_or.result low high c.read.ensures.answers_as_the_frames_do c.unwrap_or.ensures)
 
 pub returns : goal.returns
 returns g c =

@@ -6,26 +6,26 @@ use Rattle.playback.proofs.replaying.play.Goals as goal
 pub loop-rest-init : goal.loop-rest-init
 loop-rest-init g c = starts _ _ _ _ c.requires c.new-text.ensures.bytes
 
-pub returns-in-default : goal.returns-in-default
-returns-in-default g c =
-    let parts = c.split-line.ensures in
-    let off = c.broken-off.ensures in
+pub returns-in_default : goal.returns-in_default
+returns-in_default g c =
+    let parts = c.split_line.ensures in
+    let off = c.broken_off.ensures in
     let some : 0 < length c.loop-rest.rest.now = omega (arith, false-eqb _ 0 c.loop-rest-test.ensures) in
-    no_call_here c.loop-rest.invariant c.split-line.result.0.now c.split-line.result.1.now parts.gives-the-first-line parts.gives-what-follows some c.in-default.ensures.reads-exactly-the-calls _ _ (ap string_bytes off.keeps-the-text) off.names-the-line
+    no_call_here c.loop-rest.invariant c.split_line.result.0.now c.split_line.result.1.now parts.gives_the_first_line parts.gives_what_follows some c.in_default.ensures.reads_exactly_the_calls _ _ (ap string_bytes off.keeps_the_text) off.names_the_line
 
 pub loop-rest-smaller : goal.loop-rest-smaller
 loop-rest-smaller g c =
     let some : 0 < length c.loop-rest.rest.now = omega (arith, false-eqb _ 0 c.loop-rest-test.ensures) in
-    omega (arith, after_shorter c.loop-rest.rest.now some, ap length c.split-line.ensures.gives-what-follows)
+    omega (arith, after_shorter c.loop-rest.rest.now some, ap length c.split_line.ensures.gives_what_follows)
 
 pub loop-rest-preserved : goal.loop-rest-preserved
 loop-rest-preserved g c =
-    let parts = c.split-line.ensures in
+    let parts = c.split_line.ensures in
     let some : 0 < length c.loop-rest.rest.now = omega (arith, false-eqb _ 0 c.loop-rest-test.ensures) in
-    call_here c.loop-rest.invariant c.split-line.result.0.now c.split-line.result.1.now parts.gives-the-first-line parts.gives-what-follows some _ _ _ _ c.in-Some.ensures.reads-exactly-the-calls
-    c.perform-answer.ensures.performs-the-call c.in-Ok.ensures.bytes
+    call_here c.loop-rest.invariant c.split_line.result.0.now c.split_line.result.1.now parts.gives_the_first_line parts.gives_what_follows some _ _ _ _ c.in-Some.ensures.reads_exactly_the_calls
+    c.perform-answer.ensures.performs_the_call c.in-Ok.ensures.bytes
 
 pub returns : goal.returns
 returns g c =
-    no_more c.loop-rest.invariant _ _ (true-eqb _ 0 c.loop-rest-test.ensures) c.in-ok-frames.ensures.lists-every-frame-and-the-outs
-    (c.in-ok-push-str.ensures.bytes ∙ ap (λ (l : List ℕ). string_bytes c.loop-rest.text ++ l) c.as-str.ensures.value)
+    no_more c.loop-rest.invariant _ _ (true-eqb _ 0 c.loop-rest-test.ensures) c.in_ok-frames.ensures.lists_every_frame_and_the_outs
+    (c.in_ok-push_str.ensures.bytes ∙ ap (λ (l : List ℕ). string_bytes c.loop-rest.text ++ l) c.as_str.ensures.value)

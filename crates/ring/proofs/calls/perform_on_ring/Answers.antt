@@ -5,6 +5,6 @@ pub returns : goal.returns
 returns g c =
     let done = c.dispatch.ensures in
     record {
-      performs-the-call = performed _ _ _ _ done.answers_as_the_frames_do done.holds_the_frames_after;
-      moves-as-the-call-does = done.moves-as-the-call-does;
+      performs_the_call = performed _ _ _ _ done.answers_as_the_frames_do done.holds_the_frames_after;
+      moves_as_the_call_does = done.moves_as_the_call_does;
     }

@@ -5,8 +5,8 @@ use Rattle.ring_playback.proofs.beside.list_both.Goals as goal
 
 pub returns : goal.returns
 returns g c =
-    let ring = c.in-ok-frames.ensures.lists-every-frame-and-the-outs in
-    let beside = c.in-ok-expected.ensures.lists-every-frame-and-the-outs in
-    let same : c.as-bytes.result.now ≡ c.as-bytes-2.result.now =
-    c.as-bytes.ensures.value ∙ ring ∙ ap listing_text (sym c.requires) ∙ sym beside ∙ sym c.as-bytes-2.ensures.value in
-    (c.in-ok-push-str.ensures.bytes ∙ ap (λ (l : List ℕ). string_bytes c.args.text.now ++ l) (c.as-str.ensures.value ∙ ring), c.is-same.ensures.1 same)
+    let ring = c.in_ok-frames.ensures.lists_every_frame_and_the_outs in
+    let beside = c.in_ok-expected.ensures.lists_every_frame_and_the_outs in
+    let same : c.as_bytes.result.now ≡ c.as_bytes-2.result.now =
+    c.as_bytes.ensures.value ∙ ring ∙ ap listing_text (sym c.requires) ∙ sym beside ∙ sym c.as_bytes-2.ensures.value in
+    (c.in_ok-push_str.ensures.bytes ∙ ap (λ (l : List ℕ). string_bytes c.args.text.now ++ l) (c.as_str.ensures.value ∙ ring), c.is_same.ensures.1 same)

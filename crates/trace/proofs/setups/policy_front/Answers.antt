@@ -4,7 +4,7 @@ use Rattle.trace.proofs.OneSetup.{fixed_only}
 use Rattle.trace.proofs.setups.policy_front.Goals as goal
 use Rattle.std.proofs.lemmas.Bool.Decides.{Decides-eqb}
 
-pub returns-in-err-spill : goal.returns-in-err-spill
-returns-in-err-spill c =
-    let words = strip_prefix_is Decides-eqb c.args.words.now (codes "fixed ") (Some c.in-Some-strip-prefix.amounts) c.in-Some-strip-prefix.ensures.cases in
-    rw c.from-residual.ensures (λ p rest h e. fixed_only _ p rest h (sym words ∙ e) c.in-err-spill.ensures)
+pub returns-in_err-spill : goal.returns-in_err-spill
+returns-in_err-spill c =
+    let words = strip_prefix_is Decides-eqb c.args.words.now (codes "fixed ") (Some c.in-Some-strip_prefix.amounts) c.in-Some-strip_prefix.ensures.cases in
+    rw c.from_residual.ensures (λ p rest h e. fixed_only _ p rest h (sym words ∙ e) c.in_err-spill.ensures)

@@ -8,9 +8,9 @@ loop-i-init c = (paste_none c.args.self.now.words c.base-from.result [], refl, r
 pub loop-i-preserved : goal.loop-i-preserved
 loop-i-preserved c =
     let from = c.base-from.result in
-    let ok = c.set-word.ensures in
+    let ok = c.set_word.ensures in
     let inv = c.loop-i.invariant in (
-      ok.changes-one-word ∙ ap (λ (ws : List ℕ). set ws (from + c.loop-i.i) 0) inv.0 ∙ fill_from_more c.args.self.now.words from c.loop-i.i 0 (omega arith),
-      ok.keeps-the-newest ∙ inv.1,
+      ok.changes_one_word ∙ ap (λ (ws : List ℕ). set ws (from + c.loop-i.i) 0) inv.0 ∙ fill_from_more c.args.self.now.words from c.loop-i.i 0 (omega arith),
+      ok.keeps_the_newest ∙ inv.1,
       ok.keeps_the_capacity ∙ inv.2,
     )

@@ -14,20 +14,20 @@ returns g c =
     let low = n.some_resident in
     let xs = g.S.SaveStore.windows c.args.store in
     let room = g.S.SaveStore.capacity c.args.store in
-    let words = c.new.ensures.words-are-zero in
-    let stands = c.new.ensures.first-is-resident in
+    let words = c.new.ensures.words_are_zero in
+    let stands = c.new.ensures.first_is_resident in
     let made : ◌≡◌ {A = Frames} (ring_frames xs room c.new.result.words (count_of c.new.result) (pointer_of c.new.result) (resident_of c.new.result)) (made_over n.count xs room) =
     (λ i. ring_frames xs room (words i) (stands.windows i) (stands.pointer i) (stands.resident i)) ∙ new_ring xs room n.count (omega arith) n.few in
     record {
-      stands-for-the-store-and-a-frame = made;
-      is-fresh-exactly-over-an-empty-store = (
+      stands_for_the_store_and_a_frame = made;
+      is_fresh_exactly_over_an_empty_store = (
         λ none. record { one_frame_of_zeros = made ∙ ap (λ l. made_over n.count l room) none ∙ ap fresh (ap (λ (f : Frames). f.capacity) (sym made)); nothing_moved = c.zero.ensures },
         λ is. ap (λ (f : Frames). f.older) (sym made ∙ is.one_frame_of_zeros),
       );
-      has-moved-nothing =
+      has_moved_nothing =
           same_moving _ (begins g.S.SaveStore n.count c.args.store c.args.policy)
           (same_movement _ (begun n.count (length xs) room) (record { windows = stands.windows; pointer = stands.pointer; resident = stands.resident; mask = stands.mask; held = refl; room = refl; counts = c.zero.ensures }))
           refl;
-      windows-are-numbered-modulo-their-count = wrap_is_modulo;
-      holds-the-store = refl;
+      windows_are_numbered_modulo_their_count = wrap_is_modulo;
+      holds_the_store = refl;
     }

@@ -35,15 +35,15 @@ loop-j-preserved g c =
     let sofar = c.loop-j.invariant.0 in
     let kept = c.loop-j.invariant.2 in
     let at : c.target.result ≡ wrap (count_of t) (pointer_of t + (c.loop-j.j + 1)) = c.target.ensures ∙ (λ i. wrap (window_count (kept i)) ((kept i).pointer + (c.loop-j.j + 1))) in
-    let is = c.take.ensures.gives-the-newest ∙ taken_is xs ys j _ (omega arith) sofar.store_lost_the_newest in
-    let wrote = c.set-window.ensures.changes-one-window in (
+    let is = c.take.ensures.gives_the_newest ∙ taken_is xs ys j _ (omega arith) sofar.store_lost_the_newest in
+    let wrote = c.set_window.ensures.changes_one_window in (
       record {
-        store_lost_the_newest = take_fewer xs ys _ j (omega arith) sofar.store_lost_the_newest c.take.ensures.holds-the-list-after;
+        store_lost_the_newest = take_fewer xs ys _ j (omega arith) sofar.store_lost_the_newest c.take.ensures.holds_the_list_after;
         windows_have_them =
             ap (λ (vs : List ℕ). upper vs n p (j + 1)) wrote
             ∙ fill_more xs ws n p j c.target.result c.take.new.to _ c.loop-j.windows.long few y.inside (omega arith) (omega arith) at is sofar.windows_have_them;
       },
       ap (λ (vs : List ℕ). window_at vs p) wrote ∙ newest_kept ws n p j c.target.result c.take.new.to c.loop-j.windows.long few y.inside (omega arith) at ∙ c.loop-j.invariant.1,
-      c.set-window.ensures.keeps-the-residency ∙ kept,
+      c.set_window.ensures.keeps_the_residency ∙ kept,
       c.take.ensures.keeps_the_capacity ∙ c.loop-j.invariant.3,
     )

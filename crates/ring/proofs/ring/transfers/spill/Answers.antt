@@ -35,7 +35,7 @@ loop-j-preserved g c =
     let held : length (g.S.SaveStore.windows c.loop-j.store) ≡ length (g.S.SaveStore.windows c.args.store.now) + c.loop-j.j =
     ap length sofar ∙ length-append xs (take j R) ∙ ap (λ (m : ℕ). length xs + m) (length-take-le j R (omega arith)) in
     let fits : length (g.S.SaveStore.windows c.loop-j.store) < g.S.SaveStore.capacity c.loop-j.store = omega arith in
-    let put = c.put.ensures.holds-the-list-after ∙ sym (cond_below _ _ (ys ++ (saved_frame c.window.result ∷ [])) ys fits) in
-    let is : saved_frame c.window.result ≡ window_at t.words c.oldest-w.result = λ i. frame_of (c.window.ensures.copies-the-ins i) (c.window.ensures.copies-the-locals i) in
+    let put = c.put.ensures.holds_the_list_after ∙ sym (cond_below _ _ (ys ++ (saved_frame c.window.result ∷ [])) ys fits) in
+    let is : saved_frame c.window.result ≡ window_at t.words c.oldest-w.result = λ i. frame_of (c.window.ensures.copies_the_ins i) (c.window.ensures.copies_the_locals i) in
     let at = ap (window_at t.words) (c.oldest-w.ensures ∙ ap (λ (x : Residency). wrap (window_count x) (x.pointer + (resident_count x - (j + 1)))) c.residency.ensures) ∙ sym (resident_at t.words n p r j no_frame y.inside (omega arith) (omega arith)) in
     (put_more xs ys _ R j (saved_frame c.window.result) (omega arith) (is ∙ at) sofar put, c.put.ensures.keeps_the_capacity ∙ same)

@@ -12,7 +12,7 @@ returns c =
     let most = length s.table.now in
     let ok = c.put.ensures in
     record {
-      answers-as-the-list-does = ok.answers-as-the-list-does ∙ sym (put_answer_map saved_frame (contents s) most);
-      holds-the-list-after = let e = map_put_after saved_frame (contents s) most w in cc;
+      answers_as_the_list_does = ok.answers_as_the_list_does ∙ sym (put_answer_map saved_frame (contents s) most);
+      holds_the_list_after = let e = map_put_after saved_frame (contents s) most w in cc;
       keeps_the_capacity = let e = length_table_after_put s w in cc;
     }

@@ -7,4 +7,4 @@ use Rattle.stores.proofs.flat.StackSavedWindowSaveStore.spare.Goals as goal
 pub returns : goal.returns
 returns c =
     let mapped = length-map (contents c.args.self.now) saved_frame in
-    record { answers-as-the-list-does = omega arith }
+    record { answers_as_the_list_does = omega arith }

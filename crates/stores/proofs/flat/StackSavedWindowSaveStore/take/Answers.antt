@@ -9,8 +9,8 @@ returns c =
     let s = c.args.self.now in
     let ok = c.take.ensures in
     record {
-      answers-as-the-list-does = ok.answers-as-the-list-does ∙ sym (take_answer_map saved_frame (contents s));
-      holds-the-list-after = let e = map_take_after saved_frame (contents s) in cc;
-      gives-the-newest = ap saved_frame ok.gives-the-newest ∙ map_taken saved_frame (contents s) c.args.to.now;
+      answers_as_the_list_does = ok.answers_as_the_list_does ∙ sym (take_answer_map saved_frame (contents s));
+      holds_the_list_after = let e = map_take_after saved_frame (contents s) in cc;
+      gives_the_newest = ap saved_frame ok.gives_the_newest ∙ map_taken saved_frame (contents s) c.args.to.now;
       keeps_the_capacity = ap length ok.writes_nothing;
     }

@@ -10,8 +10,8 @@ returns g c =
     let ok = c.append.ensures in
     let h : n < length xs = search rules in
     record {
-      answers-as-the-list-does = put_accepted xs n h;
-      holds-the-list-after = let e = front_more xs n c.args.element h in cc;
-      writes-the-next-place-alone = ok.writes-one-place ∙ cond_below _ _ _ _ h;
-      is-lent-that-table = ok.is-lent-that-table;
+      answers_as_the_list_does = put_accepted xs n h;
+      holds_the_list_after = let e = front_more xs n c.args.element h in cc;
+      writes_the_next_place_alone = ok.writes_one_place ∙ cond_below _ _ _ _ h;
+      is_lent_that_table = ok.is_lent_that_table;
     }

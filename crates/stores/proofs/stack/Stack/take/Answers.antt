@@ -10,9 +10,9 @@ returns g c =
     let p : 0 < n = search rules in
     let h : n ≤ length xs = omega arith in
     record {
-      answers-as-the-list-does = take_accepted xs n p h;
-      holds-the-list-after = let e = front_less xs n h in cc;
-      gives-the-newest = ok.gives-that-place ∙ front_last xs n c.args.to.now p h;
+      answers_as_the_list_does = take_accepted xs n p h;
+      holds_the_list_after = let e = front_less xs n h in cc;
+      gives_the_newest = ok.gives_that_place ∙ front_last xs n c.args.to.now p h;
       writes_nothing = ok.writes_nothing;
-      is-lent-that-table = ok.is-lent-that-table;
+      is_lent_that_table = ok.is_lent_that_table;
     }

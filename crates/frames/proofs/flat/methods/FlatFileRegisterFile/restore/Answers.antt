@@ -8,7 +8,7 @@ use Rattle.frames.proofs.flat.methods.FlatFileRegisterFile.restore.Goals as goal
 pub returns : goal.returns
 returns c =
     let f = c.args.self.now in
-    let back = caller_at f.words f.top f.capacity _ c.in-ok-self.ensures in
+    let back = caller_at f.words f.top f.capacity _ c.in_ok-self.ensures in
     record {
       answers_as_the_frames_do = sym (cond-false (is_last (flat_state f)) _ _ back.0);
       holds_the_frames_after =

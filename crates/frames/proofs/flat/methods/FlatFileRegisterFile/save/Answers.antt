@@ -10,20 +10,20 @@ use Rattle.frames.proofs.flat.methods.FlatFileRegisterFile.save.Goals as goal
 pub returns : goal.returns
 returns c =
     let f = c.args.self.now in
-    let next = opened_at f.words f.top f.capacity f.within f.bounded _ c.in-ok-self.ensures in
-    let ok = c.clear-newest.ensures in
+    let next = opened_at f.words f.top f.capacity f.within f.bounded _ c.in_ok-self.ensures in
+    let ok = c.clear_newest.ensures in
     let long : length f.words ≡ 4104 = omega arith in
     record {
       answers_as_the_frames_do = sym (cond-false (is_full (flat_state f)) _ _ next.0);
       holds_the_frames_after =
-          same_flat (ok.clears-sixteen-words ∙ ap (λ (t : ℕ). paste f.words (base t) (replicate 16 0) 16) next.1) (ok.keeps-the-newest ∙ next.1) ok.keeps_the_capacity
+          same_flat (ok.clears_sixteen_words ∙ ap (λ (t : ℕ). paste f.words (base t) (replicate 16 0) 16) next.1) (ok.keeps_the_newest ∙ next.1) ok.keeps_the_capacity
           ∙ saved_flat f.words f.top f.capacity long next.2
           ∙ sym (cond-false (is_full (flat_state f)) _ _ next.0);
     }
 
-pub returns-in-err-self : goal.returns-in-err-self
-returns-in-err-self c =
+pub returns-in_err-self : goal.returns-in_err-self
+returns-in_err-self c =
     let f = c.args.self.now in
-    let p = err_from_is_err_and c.from-residual.result c.from-residual.ensures.1 in
-    let no = open_refused f.words f.top f.capacity f.within f.bounded _ c.in-err-self.ensures in
+    let p = err_from_is_err_and c.from_residual.result c.from_residual.ensures.1 in
+    let no = open_refused f.words f.top f.capacity f.within f.bounded _ c.in_err-self.ensures in
     record { answers_as_the_frames_do = rw (p.1, p.2) no.0; holds_the_frames_after = no.1 }

@@ -20,19 +20,19 @@ returns g c =
     let xs = g.S.SaveStore.windows x.store in
     let room = g.S.SaveStore.capacity x.store in
     let is = windowed c.args.register (omega arith) (omega arith) in
-    let wrote = c.set-word.ensures.changes-one-word in
-    let kept = c.set-word.ensures.keeps-the-residency in
+    let wrote = c.set_word.ensures.changes_one_word in
+    let kept = c.set_word.ensures.keeps_the_residency in
     record {
       answers_as_the_frames_do = sym (cond-true (is_windowed c.args.register) _ _ is);
       holds_the_frames_after =
           (λ i. ring_frames xs room (wrote i) (window_count (kept i)) (kept i).pointer (resident_count (kept i)))
           ∙ with_word_ring xs room t.words (count_of t) (pointer_of t) (resident_of t) c.args.register c.args.word (omega arith) y.inside (omega arith) (omega arith) (omega arith)
           ∙ sym (cond-true (is_windowed c.args.register) _ _ is);
-      moves-nothing =
+      moves_nothing =
           λ i.
           record {
             numbers = record { windows = window_count (kept i); pointer = (kept i).pointer; resident = resident_count (kept i); mask = (kept i).mask; held = length xs; room = room; counts = x.counts };
             policy = x.policy;
           };
-      keeps-the-store = refl;
+      keeps_the_store = refl;
     }
