@@ -17,16 +17,16 @@ fn read_pair(text: &[u8]) -> Option<(u32, u32)>
 fn read_word(line: &[u8]) -> Option<Call>
     ensures { Reads Bare call_text line.now result }
 {
-    if line == b"save" {
+    if line == b"save".as_slice() {
         return Some(Call::Save);
     }
-    if line == b"restore" {
+    if line == b"restore".as_slice() {
         return Some(Call::Restore);
     }
-    if line == b"depth" {
+    if line == b"depth".as_slice() {
         return Some(Call::Depth);
     }
-    if line == b"spare" {
+    if line == b"spare".as_slice() {
         return Some(Call::Spare);
     }
     None
