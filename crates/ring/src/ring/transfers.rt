@@ -19,9 +19,9 @@ fn target(windows: &Windows, j: u32) -> u32
 
 // Puts the `k` oldest resident windows into the store, oldest first.
 pub(super) fn spill<S: SaveStore>(windows: &Windows, store: &mut S, k: u32)
-    requires { (k ≤ resident_of windows.now) × (k + length (S.SaveStore.windows store.old) ≤ capacity store.old) }
+    requires { (k ≤ resident_of windows.now) × (k + length (S.SaveStore.windows store.old) ≤ S.capacity store.old) }
     ensures puts_the_oldest_first { Spilled windows.now (S.SaveStore.windows store.old) (S.SaveStore.windows store.new) k }
-    ensures keeps_the_capacity { capacity store.new ≡ capacity store.old }
+    ensures keeps_the_capacity { S.capacity store.new ≡ S.capacity store.old }
 {
     for j in 0..k {
         let w = windows.residency().oldest(j);
@@ -35,7 +35,7 @@ pub(super) fn fill<S: SaveStore>(windows: &mut Windows, store: &mut S, k: u32)
     ensures takes_the_newest_first { Filled windows.old windows.new (S.SaveStore.windows store.old) (S.SaveStore.windows store.new) k }
     ensures keeps_the_newest_frame { window_at windows.new.words (pointer_of windows.old) ≡ window_at windows.old.words (pointer_of windows.old) }
     ensures keeps_the_residency { windows.new.residency ≡ windows.old.residency }
-    ensures keeps_the_capacity { capacity store.new ≡ capacity store.old }
+    ensures keeps_the_capacity { S.capacity store.new ≡ S.capacity store.old }
 {
     for j in 0..k {
         let mut saved = SavedWindow {
