@@ -4,6 +4,7 @@
 use playback::faults::LineFault;
 use playback::replaying::replay;
 use std::io::Read;
+use std::process::ExitCode;
 use std::{fmt, io};
 
 // Why a run ended early.
@@ -43,10 +44,12 @@ fn run(rt: &HostRuntime) -> Result<(), Trouble> {
     }
 }
 
-fn main(rt: HostRuntime) -> Result<(), Trouble> {
-    let result = run(&rt);
-    if let Err(trouble) = &result {
-        let _ = eprintln!(rt; "replay: {trouble}");
+fn main(rt: HostRuntime) -> ExitCode {
+    match run(&rt) {
+        Ok(()) => ExitCode::SUCCESS,
+        Err(trouble) => {
+            let _ = eprintln!(rt; "replay: {trouble}");
+            ExitCode::FAILURE
+        },
     }
-    result
 }
