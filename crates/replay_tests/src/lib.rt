@@ -11,14 +11,14 @@ mod tests {
     fn refused_file_is_all_that_is_printed(rt: HostRuntime) -> Result<(), Fail> {
         let played = replay(rt.alloc(), b"flat 257\nsave\n")?;
         assert!(rt; played.fault.is_none());
-        assert!(rt; played.text.as_bytes() == b"refused 9 Setup at 257\n");
+        assert!(rt; played.text.as_bytes() == b"refused 9 Setup at 257\n".as_slice());
         Ok(())
     }
 
     #[test]
     fn answers_before_a_bad_line_are_kept(rt: HostRuntime) -> Result<(), Fail> {
         let played = replay(rt.alloc(), b"flat 2\nsave\nread 08\nsave\n")?;
-        assert!(rt; played.text.as_bytes() == b"ok\n");
+        assert!(rt; played.text.as_bytes() == b"ok\n".as_slice());
         match played.fault {
             Some(fault) => {
                 assert!(rt; fault.line == 3 && matches!(fault.expected, Expected::Request));
