@@ -135,7 +135,7 @@ mod tests {
     #[test]
     fn answers_before_a_bad_line_are_kept(rt: HostRuntime) -> Result<(), Fail> {
         let played = replay(rt.alloc(), b"ring 2 adaptive flat 0\nsave\nread 08\nsave\n")?;
-        assert!(rt; played.text.as_bytes() == b"refused 2 File at 1\n");
+        assert!(rt; played.text.as_bytes() == b"refused 2 File at 1\n".as_slice());
         match played.fault {
             Some(fault) => {
                 assert!(rt; fault.line == 3 && matches!(fault.expected, Expected::Request));

@@ -15,8 +15,8 @@ use Rattle.ring_playback.proofs.Ringing.{played_ring, room_fits}
 use Rattle.ring_playback.proofs.Turns.{flat_fits, without_fault}
 use Rattle.ring_playback.proofs.rings.choose_store.Goals as goal
 
-pub returns-in_ok-script : goal.returns-in_ok-script
-returns-in_ok-script g c =
+pub returns-in_ok-script-in-Ok : goal.returns-in_ok-script-in-Ok
+returns-in_ok-script-in-Ok g c =
     let n = c.args.windows.count in
     let room : ℕ = room_of c.args.store in
     let file = c.in-Ok.ensures.makes_a_fresh_file_or_refuses in
