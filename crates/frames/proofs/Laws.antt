@@ -1,10 +1,10 @@
 -- The laws of register files.
-use Rattle.std.proofs.Common.{◌≡◌, ℕ, ◌+◌, ◌-◌, ◌<◌, ◌≤◌, Bool, true, false, cond, eqb, ltb, leb, List, [], ◌∷◌, ◌++◌, length, get_or, take, set, Ok, Err, Result, sym, refl, ap, ◌∙◌, arith}
+use Rattle.std.proofs.Common.{◌≡◌, ℕ, ◌+◌, ◌-◌, Bool, true, false, cond, ltb, [], ◌∷◌, length, get_or, Ok, Err, sym, refl, ap, ◌∙◌, arith}
 use Rattle.refusal.specs.declared.faults.FileFault.{FileFault}
 use Rattle.frames.specs.declared.calls.Call.{Call}
 use Rattle.frames.specs.declared.calls.Call.TheVariants.{Save, Restore, Read, Write, Depth, Spare}
-use Rattle.frames.specs.Frames.{Frames, all_frames, no_frame, is_full, is_last, is_windowed, word, with_word, saved, restored}
-use Rattle.frames.specs.Calls.{answer_to, after_call, is_refusal, acceptance, reading}
+use Rattle.frames.specs.Frames.{Frames, all_frames, no_frame, is_full, is_last, is_windowed, with_word, saved, restored}
+use Rattle.frames.specs.Calls.{answer_to, after_call, is_refusal, acceptance}
 use Rattle.frames.specs.Laws.{Performed, FrameLaws, RefusalsChangeNothing, CapacityIsFixed, RestoreUndoesSave, OutsBecomeIns, InsBecomeOuts}
 use Rattle.frames.specs.declared.calls.Answer.{Answer}
 use Rattle.frames.specs.declared.frame.Frame.{Frame}

@@ -6,7 +6,7 @@ use Rattle.std.proofs.lemmas.List.FromFn.{length-map-range_with_len}
 use Rattle.std.proofs.ByRecursion.{All-map}
 use Rattle.std.proofs.lemmas.List.{length-take-le, length-drop}
 use Rattle.frames.specs.declared.flat.FlatFile.{FlatFile}
-use Rattle.frames.specs.Frames.{Frames, Eight, Shaped, depth_of}
+use Rattle.frames.specs.Frames.{Eight, Shaped, depth_of}
 use Rattle.frames.specs.Flat.{base, eight, frame_at, flat_frames, flat_state}
 
 pub length_eight : (ws : List ℕ) (at : ℕ) → at + 8 ≤ length ws → length (eight ws at) ≡ 8

@@ -1,6 +1,5 @@
 -- The eight words of a group: how the loop finds them, and what they are.
 use Rattle.std.proofs.Common.{◌≡◌, ℕ, ◌+◌, ◌<◌, ◌≤◌, List, length, get_or, set, Result, sym, refl, ap, ◌∙◌, arith}
-use Rattle.std.specs.List.{range_with_len}
 use Rattle.std.specs.Result.{result_unwrap_or}
 use Rattle.std.proofs.lemmas.List.FromFn.{length-map-range_with_len, get_or-map-range_with_len, fill_by_all}
 use Rattle.std.proofs.lemmas.List.Edits.{fill_by_more}
@@ -8,7 +7,6 @@ use Rattle.std.proofs.lemmas.List.{ext_get_or, length-set}
 use Rattle.std.proofs.lemmas.Bool.{cond-true}
 use Rattle.frames.proofs.Registers.{windowed}
 use Rattle.refusal.specs.declared.faults.FileFault.{FileFault}
-use Rattle.frames.specs.declared.frame.Frame.{Frame}
 use Rattle.frames.specs.Frames.{Frames, Shaped, word, frame_of, is_windowed, read_answer}
 use Rattle.listing.specs.Listing.{eight_words}
 

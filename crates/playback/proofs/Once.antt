@@ -1,5 +1,5 @@
 -- A trace has one outcome.
-use Rattle.std.proofs.Common.{◌≡◌, ℕ, ◌^◌, ◌<◌, true, false, List, ◌++◌, Some, None, codes, decimal, Option, sym, refl, ap, ◌∙◌, subst, arith}
+use Rattle.std.proofs.Common.{◌≡◌, ℕ, ◌^◌, ◌<◌, List, ◌++◌, Some, codes, decimal, Option, sym, refl, ap, ◌∙◌, subst, arith}
 use Rattle.std.proofs.lemmas.Fmt.{decimal_injective}
 use Rattle.std.proofs.lemmas.List.{append_cancel_left}
 use Rattle.std.proofs.lemmas.Bool.{both_ways}
@@ -13,7 +13,7 @@ use Rattle.frames.specs.Flat.{is_flat_capacity}
 use Rattle.frames.specs.Texts.{answer_text}
 use Rattle.trace.proofs.OneCall.{same_call}
 use Rattle.playback.specs.declared.faults.LineFault.{LineFault}
-use Rattle.playback.specs.Playing.{ended, CallLine, FlatLine, Plays, lists_the_frames, breaks_off, answers, Replays, empty, no_file, refused, plays, OneOutcome}
+use Rattle.playback.specs.Playing.{ended, CallLine, FlatLine, Plays, lists_the_frames, breaks_off, answers, empty, no_file, refused, plays, OneOutcome}
 
 one_call : (l : List ℕ) (c d : Call) → CallLine l (Some c) → CallLine l (Some d) → c ≡ d
 one_call l c d h k = same_call c d h.0 k.0 (sym h.1 ∙ k.1)
