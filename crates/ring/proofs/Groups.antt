@@ -1,9 +1,8 @@
 -- Groups of eight words, and windows, after a write elsewhere or there.
-use Rattle.std.proofs.Common.{◌≡◌, ℕ, ◌+◌, ◌-◌, ◌*◌, ◌<◌, ◌≤◌, List, ◌++◌, length, take, drop, set, replicate, sym, refl, ap, ◌∙◌, ⊎_elim, arith}
+use Rattle.std.proofs.Common.{◌≡◌, ℕ, ◌+◌, ◌-◌, ◌<◌, ◌≤◌, List, ◌++◌, length, take, drop, set, replicate, sym, ap, ◌∙◌, ⊎_elim, arith}
 use lib.Seq.{take-paste, drop-paste, length-paste, paste}
 use Rattle.std.proofs.lemmas.List.{drop-take, take-take, take_all, drop_at, length-take-le, length-append, take-append-le, drop-replicate, take-replicate}
 use Rattle.std.proofs.lemmas.Bool.{cases_lt}
-use Rattle.frames.specs.declared.frame.Frame.{Frame}
 use Rattle.frames.specs.Frames.{frame_of, zeros}
 use Rattle.frames.specs.Flat.{eight}
 use Rattle.frames.proofs.Flats.{eight_same, eight_set_in, eight_set_above, eight_set_below}

@@ -1,7 +1,6 @@
 -- Equal numbers make equal movements, and which way a save and a restore go.
-use Rattle.std.proofs.Common.{◌≡◌, ℕ, ◌<◌, ◌≤◌, cond, ltb, ◌∙◌}
+use Rattle.std.proofs.Common.{◌≡◌, ◌<◌, ◌≤◌, cond, ltb, ◌∙◌}
 use Rattle.std.proofs.lemmas.Bool.{cond-true, cond-false, lt-ltb, le-ltb}
-use Rattle.ring.specs.declared.counts.Counts.{Counts}
 use Rattle.ring.specs.Cycle.{most_resident}
 use Rattle.ring.specs.Movements.{Movement, Moving, on_save, on_restore}
 

@@ -1,5 +1,5 @@
 -- The three ways through a restore.
-use Rattle.std.proofs.Common.{◌≡◌, ℕ, ◌+◌, ◌-◌, ◌<◌, ◌≤◌, min, true, false, eqb, List, [], ◌++◌, length, take, drop, Ok, Err, Result, sym, refl, ap, ◌∙◌, subst, ap₂, append-nil, arith}
+use Rattle.std.proofs.Common.{◌≡◌, ℕ, ◌+◌, ◌-◌, ◌<◌, ◌≤◌, min, true, false, List, ◌++◌, length, Ok, Err, Result, sym, refl, ap, ◌∙◌, subst, ap₂, append-nil, arith}
 use Rattle.std.proofs.lemmas.List.{drop_all, length-take-le, take_all, take-append-drop}
 use Rattle.std.proofs.lemmas.Bool.{cond-true, cond-false, eq-eqb, ne_eqb}
 use Rattle.refusal.specs.declared.faults.FileFault.{FileFault}
@@ -11,8 +11,8 @@ use Rattle.stores.specs.declared.store.SaveStore.{Ghosts as Store}
 use Rattle.ring.specs.declared.counts.Counts.{Counts}
 use Rattle.ring.specs.declared.ring.WindowRing.{WindowRing}
 use Rattle.ring.specs.declared.windows.Windows.{Windows}
-use Rattle.ring.specs.Cycle.{most_resident, up}
-use Rattle.ring.specs.Movements.{Movement, fill_size, fills_now, gone_up, moving, restores, underflow_counted}
+use Rattle.ring.specs.Cycle.{up}
+use Rattle.ring.specs.Movements.{Movement, fill_size, gone_up, moving, restores, underflow_counted}
 use Rattle.ring.specs.Residencies.{Stands}
 use Rattle.ring.specs.Rings.{frames_of, ring_frames}
 use Rattle.ring.specs.RingShape.{depth_ring}

@@ -1,5 +1,5 @@
 -- The three ways through a save.
-use Rattle.std.proofs.Common.{◌≡◌, ℕ, ◌+◌, ◌-◌, ◌<◌, ◌≤◌, min, true, false, List, [], ◌∷◌, ◌++◌, length, take, drop, Ok, Err, Result, sym, refl, ap, ◌∙◌, subst, ap₂, append_assoc, append-nil, arith}
+use Rattle.std.proofs.Common.{◌≡◌, ℕ, ◌+◌, ◌-◌, ◌<◌, ◌≤◌, min, true, false, List, ◌++◌, length, take, drop, Ok, Err, Result, sym, refl, ap, ◌∙◌, subst, ap₂, append_assoc, append-nil, arith}
 use Rattle.std.proofs.lemmas.List.{length-append, length-take-le, take-append-drop}
 use Rattle.std.proofs.lemmas.Bool.{cond-true, cond-false, le-leb, lt-leb}
 use Rattle.refusal.specs.declared.faults.FileFault.{FileFault}
@@ -12,9 +12,9 @@ use Rattle.ring.specs.declared.counts.Counts.{Counts}
 use Rattle.ring.specs.declared.ring.WindowRing.{WindowRing}
 use Rattle.ring.specs.declared.windows.Windows.{Windows}
 use Rattle.ring.specs.Cycle.{down, most_resident}
-use Rattle.ring.specs.Movements.{Movement, gone_down, moving, overflow_counted, saves, spill_size, spills_now}
+use Rattle.ring.specs.Movements.{Movement, gone_down, moving, overflow_counted, saves, spill_size}
 use Rattle.ring.specs.Residencies.{Stands}
-use Rattle.ring.specs.Rings.{frames_of, residents_of, ring_frames}
+use Rattle.ring.specs.Rings.{frames_of, ring_frames}
 use Rattle.ring.specs.RingShape.{depth_ring}
 use Rattle.ring.specs.Tables.{count_of, pointer_of, resident_of}
 use Rattle.ring.specs.Transfers.{Spilled, Spills}

@@ -1,8 +1,8 @@
 -- The windows that follow another upwards.
-use Rattle.std.proofs.Common.{◌≡◌, ℕ, zero, suc, ◌+◌, ◌-◌, ◌<◌, ◌≤◌, List, [], ◌∷◌, ◌++◌, length, get_or, take, drop, sym, refl, ap, ◌∙◌, ap₂, arith}
+use Rattle.std.proofs.Common.{◌≡◌, ℕ, zero, suc, ◌+◌, ◌-◌, ◌<◌, ◌≤◌, List, [], ◌∷◌, ◌++◌, get_or, drop, sym, refl, ap, ◌∙◌, ap₂, arith}
 use Rattle.std.proofs.lemmas.Bool.Decides.{nat_tests}
 use Rattle.frames.specs.declared.frame.Frame.{Frame}
-use Rattle.ring.specs.Cycle.{down, up, wrap}
+use Rattle.ring.specs.Cycle.{up, wrap}
 use Rattle.ring.specs.Words.{residents, upper, window_at}
 
 pub upper_same : (ws xs : List ℕ) (n p c : ℕ) → ((j : ℕ) → 1 ≤ j → j ≤ c → window_at ws (wrap n (p + j)) ≡ window_at xs (wrap n (p + j))) → upper ws n p c ≡ upper xs n p c

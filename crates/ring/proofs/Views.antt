@@ -1,7 +1,7 @@
 -- What a ring's words stand for after each of its calls.
-use Rattle.std.proofs.Common.{◌≡◌, ℕ, ◌+◌, ◌-◌, ◌*◌, ◌<◌, ◌≤◌, true, false, cond, ltb, List, [], ◌∷◌, ◌++◌, length, get_or, take, drop, set, replicate, Ok, Err, sym, refl, ap, ◌∙◌, ⊎_elim, append_assoc, append-nil, arith}
+use Rattle.std.proofs.Common.{◌≡◌, ℕ, ◌+◌, ◌-◌, ◌<◌, ◌≤◌, ltb, List, [], ◌∷◌, ◌++◌, length, get_or, take, set, replicate, Ok, Err, sym, refl, ap, ◌∙◌, ⊎_elim, append_assoc, append-nil, arith}
 use lib.Seq.{length-paste, paste}
-use Rattle.std.proofs.lemmas.List.{take_at, get_or_at, length_push, take-append-drop}
+use Rattle.std.proofs.lemmas.List.{take_at, get_or_at, length_push}
 use Rattle.std.proofs.lemmas.Bool.{cond-true, cond-false, lt-ltb, le-ltb, cases_lt}
 use Rattle.std.proofs.lemmas.Bool.Decides.{nat_tests}
 use Rattle.refusal.specs.declared.faults.FileFault.TheVariants.{NoSuchRegister}
@@ -13,7 +13,7 @@ use Rattle.frames.proofs.Registers.{windowed, word_out, word_local, word_in}
 use Rattle.frames.proofs.Same.{same_frames}
 use Rattle.ring.specs.Cycle.{down, most_resident, up, wrap}
 use Rattle.ring.specs.Rings.{made_over, ring_frames}
-use Rattle.ring.specs.Words.{cleared, ins_at, locals_at, outs_of, place_of, residents, upper, window_at}
+use Rattle.ring.specs.Words.{cleared, ins_at, locals_at, place_of, upper, window_at}
 use Rattle.ring.proofs.Groups.{eight_pasted, eight_set_at, eight_set_past, eight_zeros, ins_beside_locals, window_paste_other, window_set_other}
 use Rattle.ring.proofs.Uppers.{upper_end, upper_same}
 

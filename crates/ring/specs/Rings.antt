@@ -1,7 +1,7 @@
 -- The frames that a ring stands for.
-use Rattle.std.specs.Prelude.{◌≡◌, ℕ, ◌+◌, ◌-◌, List, [], ◌++◌}
+use Rattle.std.specs.Prelude.{ℕ, ◌+◌, ◌-◌, List, ◌++◌}
 use Rattle.frames.specs.declared.frame.Frame.{Frame}
-use Rattle.frames.specs.Frames.{Frames, frame_of, fresh, zeros}
+use Rattle.frames.specs.Frames.{Frames, frame_of, zeros}
 use Rattle.stores.specs.declared.store.SaveStore.{Ghosts as Store}
 use Rattle.ring.specs.declared.ring.WindowRing.{WindowRing}
 use Rattle.ring.specs.Cycle.{most_resident}

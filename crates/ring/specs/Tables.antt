@@ -1,6 +1,5 @@
 -- A ring's word table, by its words, its number of windows, its pointer and how many windows are resident.
-use Rattle.std.specs.Prelude.{ℕ, List}
-use Rattle.frames.specs.declared.frame.Frame.{Frame}
+use Rattle.std.specs.Prelude.{ℕ}
 use Rattle.ring.specs.declared.windows.Windows.{Windows}
 use Rattle.ring.specs.Residencies.{resident_count, window_count}
 

@@ -6,7 +6,6 @@ use Rattle.stores.specs.declared.store.SaveStore.{Ghosts as Store}
 use Rattle.ring.specs.declared.ring.WindowRing.{WindowRing}
 use Rattle.ring.specs.declared.windows.Windows.{Windows}
 use Rattle.ring.specs.Movements.{moving, spills_now, fills_now}
-use Rattle.ring.specs.Rings.{residents_of}
 use Rattle.ring.specs.Tables.{count_of, pointer_of, resident_of}
 use Rattle.ring.specs.Words.{residents, upper}
 

@@ -1,4 +1,4 @@
-use Rattle.std.proofs.Common.{◌≡◌, Bool, true, ◌&&◌, string_bytes, refl, ap, ◌∙◌, ap₂}
+use Rattle.std.proofs.Common.{◌&&◌, string_bytes, ◌∙◌, ap₂}
 use Rattle.ring.specs.Movements.{moving}
 use Rattle.ring.specs.Rings.{frames_of}
 use Rattle.ring_playback.proofs.Both.{turn, end}

@@ -1,5 +1,4 @@
-use Rattle.std.proofs.Common.{◌≡◌, ℕ, true, List, ◌++◌, string_bytes, sym, ap, ◌∙◌, rules}
-use Rattle.frames.specs.Frames.{Frames}
+use Rattle.std.proofs.Common.{◌≡◌, ℕ, List, ◌++◌, string_bytes, sym, ap, ◌∙◌}
 use Rattle.listing.specs.Listing.{listing_text}
 use Rattle.ring_playback.proofs.beside.list_both.Goals as goal
 

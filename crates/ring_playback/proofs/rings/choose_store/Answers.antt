@@ -1,13 +1,8 @@
-use Rattle.std.proofs.Common.{◌≡◌, ℕ, ◌≤◌, List, [], map, length, string_bytes, sym, ap, ◌∙◌, arith, length-drop, length-take}
+use Rattle.std.proofs.Common.{◌≡◌, ℕ, map, length, string_bytes, sym, ap, ◌∙◌, arith, length-drop, length-take}
 use lib.ListN.{length-replicate}
-use Rattle.std.proofs.lemmas.List.{length-take-le}
 use Rattle.std.proofs.lemmas.Result.{IfOk-weaker}
-use Rattle.frames.specs.declared.frame.Frame.{Frame}
 use Rattle.frames.specs.Flat.{is_flat_capacity}
-use Rattle.stores.specs.declared.window.SavedWindow.{SavedWindow}
-use Rattle.stores.specs.Tables.{contents}
 use Rattle.stores.specs.Windows.{saved_frame}
-use Rattle.ring.specs.Movements.{moving}
 use Rattle.trace.specs.Lines.{lines}
 use Rattle.ring_playback.specs.Flats.{capacity_fault}
 use Rattle.ring_playback.specs.Beside.{PlayedRing, ring_capacity, room_of}

@@ -1,7 +1,6 @@
-use Rattle.std.proofs.Common.{◌≡◌, ℕ, ◌+◌, ◌-◌, ◌<◌, List, length, take, drop, sym, refl, ap, ◌∙◌, arith}
-use Rattle.std.proofs.lemmas.List.{drop_all, length-take-le, take_all}
+use Rattle.std.proofs.Common.{◌≡◌, ℕ, ◌+◌, ◌-◌, List, length, sym, refl, ap, ◌∙◌, arith}
+use Rattle.std.proofs.lemmas.List.{drop_all, take_all}
 use Rattle.frames.specs.declared.frame.Frame.{Frame}
-use Rattle.stores.specs.Windows.{saved_frame}
 use Rattle.ring.specs.Cycle.{wrap}
 use Rattle.ring.specs.Residencies.{window_count}
 use Rattle.ring.specs.Tables.{count_of, pointer_of}

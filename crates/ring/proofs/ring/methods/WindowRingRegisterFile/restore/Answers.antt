@@ -1,4 +1,4 @@
-use Rattle.std.proofs.Common.{◌≡◌, ℕ, ◌+◌, ◌-◌, ◌<◌, ◌≤◌, length, ap, ◌∙◌, subst, arith}
+use Rattle.std.proofs.Common.{ℕ, ◌+◌, ◌-◌, ◌<◌, ◌≤◌, length, ap, ◌∙◌, subst, arith}
 use Rattle.ring.specs.declared.windows.Windows.{Windows}
 use Rattle.ring.specs.Cycle.{up}
 use Rattle.ring.specs.Residencies.{Stands, resident_count, window_count}

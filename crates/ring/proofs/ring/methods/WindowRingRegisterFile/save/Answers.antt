@@ -1,12 +1,11 @@
-use Rattle.std.proofs.Common.{◌≡◌, ℕ, ◌+◌, ◌-◌, ◌<◌, ◌≤◌, min, length, sym, ap, ◌∙◌, subst, arith}
+use Rattle.std.proofs.Common.{ℕ, ◌+◌, ◌-◌, ◌<◌, ◌≤◌, length, ap, ◌∙◌, subst, arith}
 use Rattle.ring.specs.declared.windows.Windows.{Windows}
 use Rattle.ring.specs.declared.window_count.WindowCount.{WindowCount}
 use Rattle.ring.specs.Cycle.{down, most_resident}
-use Rattle.ring.specs.Movements.{spill_size}
 use Rattle.ring.specs.Residencies.{Stands, resident_count, window_count}
 use Rattle.ring.specs.Tables.{count_of, pointer_of, resident_of}
 use Rattle.ring.specs.Words.{cleared}
-use Rattle.ring.proofs.Saving.{SavesAsDefined, save_within, save_at_capacity, save_with_overflow}
+use Rattle.ring.proofs.Saving.{save_within, save_at_capacity, save_with_overflow}
 use Rattle.ring.proofs.ring.methods.WindowRingRegisterFile.save.Goals as goal
 
 pub returns-then-resident-most_resident : goal.returns-then-resident-most_resident

@@ -1,11 +1,10 @@
-use Rattle.std.proofs.Common.{◌≡◌, length, sym, refl, ◌∙◌, arith}
+use Rattle.std.proofs.Common.{length, sym, refl, ◌∙◌, arith}
 use Rattle.std.proofs.lemmas.Bool.{cond-true}
 use Rattle.frames.specs.Frames.{is_windowed}
 use Rattle.frames.proofs.Registers.{windowed}
 use Rattle.ring.specs.Residencies.{resident_count, window_count}
 use Rattle.ring.specs.Rings.{ring_frames}
 use Rattle.ring.specs.Tables.{count_of, pointer_of, resident_of}
-use Rattle.ring.specs.Movements.{Movement, Moving}
 use Rattle.ring.proofs.ring.methods.WindowRingRegisterFile.write.Goals as goal
 use Rattle.ring.proofs.Views.{with_word_ring}
 
