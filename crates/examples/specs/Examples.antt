@@ -1,6 +1,6 @@
 -- Worked examples: calls on a fresh file of some capacity, and the line that each answer is printed as.
 use Rattle.std.specs.Prelude.{◌≡◌, ℕ, List, [], ◌∷◌, map, codes}
-use Rattle.std.specs.List.{AllByRecursion as All}
+use Rattle.std.specs.List.{AllByRecursion}
 use Rattle.frames.specs.declared.calls.Call.{Call}
 use Rattle.frames.specs.declared.calls.Call.TheVariants.{Save, Restore, Read, Write}
 use Rattle.frames.specs.Frames.{fresh}
@@ -36,4 +36,4 @@ Holds e = map answer_text (answers_to (fresh e.capacity) e.calls) ≡ e.printed
 
 -- the theorem over the table
 abbrev pub WorkedExamplesHold : Type 0
-WorkedExamplesHold = All Holds worked
+WorkedExamplesHold = AllByRecursion Holds worked

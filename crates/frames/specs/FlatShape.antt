@@ -1,7 +1,7 @@
 -- Every flat file keeps the shape of its frames. It stands here since a file's type carries it.
 use Rattle.std.specs.Prelude.{◌≡◌, ℕ, zero, suc, ◌+◌, ◌<◌, ◌≤◌, List, length, drop}
 use Rattle.std.proofs.Common.{arith}
-use Rattle.std.specs.List.{range_with_len, AllByRecursion as All}
+use Rattle.std.specs.List.{range_with_len, AllByRecursion}
 use Rattle.std.proofs.lemmas.List.FromFn.{length-map-range_with_len}
 use Rattle.std.proofs.ByRecursion.{All-map}
 use Rattle.std.proofs.lemmas.List.{length-take-le, length-drop}
@@ -15,7 +15,7 @@ length_eight ws at h = length-take-le 8 (drop at ws) (simp length-drop (omega ar
 frame_eight : (ws : List ℕ) (i : ℕ) → length ws ≡ 4104 → Eight (frame_at ws i)
 frame_eight ws i h = (length_eight ws (base i + 16) (omega arith), length_eight ws (base i + 8) (omega arith))
 
-all_counted : (P : ℕ → Type 0) (a n : ℕ) → ((k : ℕ) → P k) → All P (range_with_len a n)
+all_counted : (P : ℕ → Type 0) (a n : ℕ) → ((k : ℕ) → P k) → AllByRecursion P (range_with_len a n)
 all_counted P a zero h = tt
 all_counted P a (suc n) h = (h a, all_counted P (a + 1) n h)
 

@@ -1,6 +1,6 @@
 -- What a register file stands for, and what each call answers and leaves.
 use Rattle.std.specs.Prelude.{◌≡◌, ℕ, ◌+◌, ◌-◌, ◌≤◌, min, Bool, cond, ◌&&◌, List, [], ◌∷◌, ◌++◌, length, take, replicate, Ok, Err, Result, ◌==◌, nat_le, nat_lt, slice_index, slice_index_or, slice_set}
-use Rattle.std.specs.List.{AllByRecursion as All}
+use Rattle.std.specs.List.{AllByRecursion}
 use Rattle.refusal.specs.declared.faults.FileFault.{FileFault}
 use Rattle.refusal.specs.declared.faults.FileFault.TheVariants.{NoSuchRegister, AtCapacity, LastFrame}
 use Rattle.frames.specs.declared.frame.Frame.{Frame}
@@ -38,7 +38,7 @@ Eight f = (length f.ins ≡ 8) × (length f.locals ≡ 8)
 
 -- eight words in each group, and no more frames than there may be
 pub record Shaped (s : Frames) : Type 0 where
-  pub older_eight : All Eight s.older
+  pub older_eight : AllByRecursion Eight s.older
   pub newest_eight : Eight s.newest
   pub outs_eight : length s.outs ≡ 8
   pub within : depth_of s ≤ s.capacity

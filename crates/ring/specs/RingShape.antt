@@ -1,7 +1,7 @@
 -- Every ring keeps the shape of its frames. It stands here since a file's type carries it.
 use Rattle.std.specs.Prelude.{◌≡◌, ℕ, zero, suc, ◌+◌, ◌-◌, ◌<◌, ◌≤◌, List, length, nat_lt, refl}
 use Rattle.std.proofs.Common.{⊎_elim, ap, arith}
-use Rattle.std.specs.List.{AllByRecursion as All}
+use Rattle.std.specs.List.{AllByRecursion}
 use Rattle.std.proofs.ByRecursion.{All-append}
 use Rattle.std.proofs.lemmas.List.{length-append}
 use Rattle.std.proofs.lemmas.Bool.{cases_lt, cond-false, cond-true, le-ltb, lt-ltb}
@@ -36,11 +36,11 @@ wrap_lt n x h =
 window_eight : (ws : List ℕ) (w : ℕ) → length ws ≡ 512 → w < 32 → Eight (window_at ws w)
 window_eight ws w long h = (length_eight ws (ins_at w) (omega arith), length_eight ws (locals_at w) (omega arith))
 
-upper_eight : (ws : List ℕ) (n p c : ℕ) → length ws ≡ 512 → n ≤ 32 → p < n → c < n → All Eight (upper ws n p c)
+upper_eight : (ws : List ℕ) (n p c : ℕ) → length ws ≡ 512 → n ≤ 32 → p < n → c < n → AllByRecursion Eight (upper ws n p c)
 upper_eight ws n p zero long few inside h = tt
 upper_eight ws n p (suc c) long few inside h = (window_eight ws (wrap n (p + (c + 1))) long (let w = wrap_lt n (p + (c + 1)) (omega arith) in omega arith), upper_eight ws n p c long few inside (omega arith))
 
-ring_frames_shape : (xs : List Frame) (room : ℕ) (ws : List ℕ) (n p r : ℕ) → length ws ≡ 512 → n ≤ 32 → p < n → 1 ≤ r → r < n → r ≤ most_resident n → length xs ≤ room → All Eight xs → Shaped (ring_frames xs room ws n p r)
+ring_frames_shape : (xs : List Frame) (room : ℕ) (ws : List ℕ) (n p r : ℕ) → length ws ≡ 512 → n ≤ 32 → p < n → 1 ≤ r → r < n → r ≤ most_resident n → length xs ≤ room → AllByRecursion Eight xs → Shaped (ring_frames xs room ws n p r)
 ring_frames_shape xs room ws n p r long few inside some less most within eight =
     record {
       older_eight = All-append Eight xs (upper ws n p (r - 1)) eight (upper_eight ws n p (r - 1) long few inside (omega arith));

@@ -1,6 +1,6 @@
 // What every save store does, by the list of windows that it holds.
 ghost use Rattle.std.specs.Prelude.{◌≡◌, ℕ, ◌-◌, ◌≤◌, List, length};
-ghost use Rattle.std.specs.List.{AllByRecursion as All};
+ghost use Rattle.std.specs.List.{AllByRecursion};
 ghost use Rattle.frames.specs.declared.frame.Frame.{Frame};
 ghost use Rattle.frames.specs.Frames.{Eight};
 ghost use Rattle.stores.specs.Stacks.{told, put_answer, put_after, take_answer, take_after, taken};
@@ -17,7 +17,7 @@ pub trait SaveStore {
 
     ghost within: { (s : Self) → length (windows s) ≤ capacity s };
 
-    ghost eight: { (s : Self) → All Eight (windows s) };
+    ghost eight: { (s : Self) → AllByRecursion Eight (windows s) };
 
     // Appends a window.
     fn put(&mut self, window: SavedWindow) -> Result<(), StoreFault>
