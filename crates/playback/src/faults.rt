@@ -7,8 +7,10 @@ use std::fmt;
 // What a line was to be.
 #[derive(Clone, Copy)]
 pub enum Expected {
-    // The first line, which chooses the file.
+    // The first line, which chooses a flat file.
     Setup,
+    // The first line, where it may choose a ring too.
+    AnySetup,
     // Any other line.
     Request,
 }
@@ -26,6 +28,8 @@ impl fmt::Display for Expected {
     fn fmt<W: fmt::Write>(&self, f: &mut fmt::Formatter<W>) -> fmt::Result {
         let forms = match self {
             Expected::Setup => "flat N, with N from 1 to 256",
+            Expected::AnySetup =>
+                "flat CAP, ring N fixed S F flat CAP or ring N adaptive flat CAP, each number from 0 to 4294967295",
             Expected::Request =>
                 "save, restore, read R, write R V, depth or spare, with R and V from 0 to 4294967295",
         };

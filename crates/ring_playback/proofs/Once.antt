@@ -26,7 +26,7 @@ Same t t' f f' = (t ≡ t') × (f ≡ f')
 
 -- what comes after a first line, by what the line is read as
 abbrev Says : Option Setup → List (List ℕ) → List ℕ → Option LineFault → Type 0
-Says None ls t f = Same t [] f (unread 1 expected.Setup)
+Says None ls t f = Same t [] f (unread 1 expected.AnySetup)
 Says (Some s) ls t f = Outcome s ls t f
 
 by_line : {l : List ℕ} {ls : List (List ℕ)} {t : List ℕ} {f : Option LineFault} → Replays (l ∷ ls) t f → (o : Option Setup) × SetupLine l o × Says o ls t f
@@ -63,7 +63,7 @@ module _ (ls : List (List ℕ)) (t t' : List ℕ) (f f' : Option LineFault) wher
   policy_once Adaptive n room p q = ring_once adaptive_policy p.0 q.0 n room (same_adaptive p.0 q.0 (p.1 ∙ sym q.1)) p.2 q.2
 
   once : (o : Option Setup) → Says o ls t f → Says o ls t' f' → Same t t' f f'
-  once None p q = both [] (unread 1 expected.Setup) p q
+  once None p q = both [] (unread 1 expected.AnySetup) p q
   once (Some (Flat n)) p q = unless_once (capacity_fault n) _ _ (flat_once n) p q
   once (Some (Ring r)) p q = unless_once (ring_fault r) _ _ (policy_once r.policy r.windows (room_of r.store)) p q
 

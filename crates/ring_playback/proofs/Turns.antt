@@ -20,14 +20,14 @@ use Rattle.ring_playback.specs.Flats.{PlayedFlat, Unless, capacity_fault}
 use Rattle.ring_playback.specs.Replays.{Outcome, SetupLine, Replays, empty, no_setup, with_setup}
 
 -- the first line
-not_chosen : (bs : List ℕ) → SetupLine (first_line bs) None → Replays (lines bs) [] (unread 1 expected.Setup)
+not_chosen : (bs : List ℕ) → SetupLine (first_line bs) None → Replays (lines bs) [] (unread 1 expected.AnySetup)
 not_chosen [] other = empty
 not_chosen (b ∷ bs) other =
-    subst (λ ls. Replays ls [] (unread 1 expected.Setup)) (sym (lines_cut (b ∷ bs) (omega arith))) (no_setup other)
+    subst (λ ls. Replays ls [] (unread 1 expected.AnySetup)) (sym (lines_cut (b ∷ bs) (omega arith))) (no_setup other)
 
 -- where there is no file, nothing is printed and the first line is named
-module _ (text : List ℕ) (f : Option LineFault) (none : text ≡ []) (named : f ≡ unread 1 expected.Setup) where
-  as_told : (ls : List (List ℕ)) → Replays ls [] (unread 1 expected.Setup) → Replays ls text f
+module _ (text : List ℕ) (f : Option LineFault) (none : text ≡ []) (named : f ≡ unread 1 expected.AnySetup) where
+  as_told : (ls : List (List ℕ)) → Replays ls [] (unread 1 expected.AnySetup) → Replays ls text f
   as_told ls p =
       subst (λ (x : List ℕ). Replays ls x f) (sym none) (subst (λ (x : Option LineFault). Replays ls [] x) (sym named) p)
 

@@ -21,8 +21,8 @@ Outcome (Ring r) ls text f = Unless (ring_fault r) (PlayedWith r.policy r.window
 
 -- what the lines of a trace print, and the line that could not be read
 pub data Replays : List (List ℕ) → List ℕ → Option LineFault → Type 0 where
-  empty : Replays [] [] (unread 1 expected.Setup)
-  no_setup : {l : List ℕ} {ls : List (List ℕ)} → SetupLine l None → Replays (l ∷ ls) [] (unread 1 expected.Setup)
+  empty : Replays [] [] (unread 1 expected.AnySetup)
+  no_setup : {l : List ℕ} {ls : List (List ℕ)} → SetupLine l None → Replays (l ∷ ls) [] (unread 1 expected.AnySetup)
   with_setup : {l text : List ℕ} {ls : List (List ℕ)} {f : Option LineFault} (s : Setup) → SetupLine l (Some s) → Outcome s ls text f → Replays (l ∷ ls) text f
 
 -- no trace has two outcomes

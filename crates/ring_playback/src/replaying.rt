@@ -31,11 +31,11 @@ pub fn replay(heap: Global, trace: &[u8]) -> Result<Playback, AllocError>
 // The first line chooses no file.
 fn no_file(heap: Global) -> Playback
     ensures prints_nothing { string_bytes result.text ≡ [] }
-    ensures names_the_first_line { result.fault ≡ unread 1 expected.Setup }
+    ensures names_the_first_line { result.fault ≡ unread 1 expected.AnySetup }
 {
     let fault = LineFault {
         line: 1,
-        expected: Expected::Setup,
+        expected: Expected::AnySetup,
     };
     Playback {
         text: String::new(heap),

@@ -151,7 +151,7 @@ mod tests {
         assert!(rt; played.text.is_empty());
         match played.fault {
             Some(fault) => {
-                assert!(rt; fault.line == 1 && matches!(fault.expected, Expected::Setup));
+                assert!(rt; fault.line == 1 && matches!(fault.expected, Expected::AnySetup));
                 Ok(())
             },
             None => Err(Fail::new("an empty trace was read")),

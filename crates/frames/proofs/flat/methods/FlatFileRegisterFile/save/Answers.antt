@@ -25,5 +25,5 @@ pub returns-in_err-self : goal.returns-in_err-self
 returns-in_err-self c =
     let f = c.args.self.now in
     let p = err_from_is_err_and c.from_residual.result c.from_residual.ensures.1 in
-    let no = open_refused f.words f.top f.capacity f.within f.bounded _ c.in_err-self.ensures in
-    record { answers_as_the_frames_do = rw (p.1, p.2) no.0; holds_the_frames_after = no.1 }
+    let told = open_refused f.words f.top f.capacity f.within f.bounded _ c.in_err-self.ensures in
+    record { answers_as_the_frames_do = rw (p.1, p.2) told.0; holds_the_frames_after = told.1 }

@@ -1,5 +1,0 @@
-use Rattle.policies.proofs.Same.{same_adaptive}
-use Rattle.policies.proofs.adaptive.rule.AdaptiveSpillPolicy.overflowed.Goals as goal
-
-pub returns : goal.returns
-returns c = record { moves_by_its_rule = same_adaptive _ _ c.raised-self.ensures }
