@@ -1,9 +1,38 @@
 // What each layer refuses, with the value that its place comes from.
 ghost use Rattle.std.specs.Prelude.{◌≡◌};
-ghost use Rattle.refusal.specs.Refusals.{file_refusal, setup_refusal, store_refusal};
+ghost use Rattle.refusal.specs.declared.layers.Layer.{Layer};
+ghost use Rattle.refusal.specs.declared.layers.Layer.TheVariants.{File, Setup, Store};
+ghost use Rattle.refusal.specs.declared.refusals.Refusal.{Refusal};
+ghost use Rattle.refusal.specs.Refusals.{refused, file_refusal, setup_refusal, store_refusal};
 
 use crate::layers::Layer;
 use crate::refusals::Refusal;
+
+// What one layer refuses.
+pub trait Fault: Copy {
+    ghost refusal: { Self → Refusal };
+
+    ghost LAYER: { Layer };
+
+    const LAYER: Layer;
+
+    // Its number in the list of refusals, and the place.
+    fn number_and_place(self) -> (u8, u32)
+        ensures are_those_of_its_refusal { refused result.0 LAYER result.1 ≡ refusal self };
+}
+
+impl<F: Fault> From<F> for Refusal {
+    ghost from_gives = { λ fault r. r ≡ F.refusal fault };
+
+    fn from(fault: F) -> Refusal {
+        let (number, place) = fault.number_and_place();
+        Refusal {
+            number,
+            layer: F::LAYER,
+            place: u64::from(place),
+        }
+    }
+}
 
 // What a register file refuses.
 #[derive(Clone, Copy, PartialEq)]
@@ -16,19 +45,18 @@ pub enum FileFault {
     LastFrame(u32),
 }
 
-impl FileFault {
-    pub fn refusal(self) -> Refusal
-        ensures reports_its_number_layer_and_place { result ≡ file_refusal self }
-    {
-        let (number, place) = match self {
+impl Fault for FileFault {
+    ghost refusal = { file_refusal };
+
+    ghost LAYER = { File };
+
+    const LAYER: Layer = Layer::File;
+
+    fn number_and_place(self) -> (u8, u32) {
+        match self {
             FileFault::NoSuchRegister(register) => (1, register),
             FileFault::AtCapacity(depth) => (2, depth),
             FileFault::LastFrame(depth) => (3, depth),
-        };
-        Refusal {
-            number,
-            layer: Layer::File,
-            place: u64::from(place),
         }
     }
 }
@@ -46,20 +74,19 @@ pub enum SetupFault {
     FlatCapacity(u32),
 }
 
-impl SetupFault {
-    pub fn refusal(self) -> Refusal
-        ensures reports_its_number_layer_and_place { result ≡ setup_refusal self }
-    {
-        let (number, place) = match self {
+impl Fault for SetupFault {
+    ghost refusal = { setup_refusal };
+
+    ghost LAYER = { Setup };
+
+    const LAYER: Layer = Layer::Setup;
+
+    fn number_and_place(self) -> (u8, u32) {
+        match self {
             SetupFault::WindowCount(windows) => (4, windows),
             SetupFault::SpillAmount(amount) => (7, amount),
             SetupFault::FillAmount(amount) => (8, amount),
             SetupFault::FlatCapacity(capacity) => (9, capacity),
-        };
-        Refusal {
-            number,
-            layer: Layer::Setup,
-            place: u64::from(place),
         }
     }
 }
@@ -73,18 +100,17 @@ pub enum StoreFault {
     Empty(u32),
 }
 
-impl StoreFault {
-    pub fn refusal(self) -> Refusal
-        ensures reports_its_number_layer_and_place { result ≡ store_refusal self }
-    {
-        let (number, place) = match self {
+impl Fault for StoreFault {
+    ghost refusal = { store_refusal };
+
+    ghost LAYER = { Store };
+
+    const LAYER: Layer = Layer::Store;
+
+    fn number_and_place(self) -> (u8, u32) {
+        match self {
             StoreFault::Full(held) => (5, held),
             StoreFault::Empty(held) => (6, held),
-        };
-        Refusal {
-            number,
-            layer: Layer::Store,
-            place: u64::from(place),
         }
     }
 }
