@@ -8,7 +8,7 @@ use Rattle.std.proofs.lemmas.Bool.{cond-true, cond-false, lt-ltb, le-ltb, cases_
 use Rattle.refusal.specs.declared.faults.FileFault.{FileFault}
 use Rattle.frames.specs.declared.frame.Frame.{Frame}
 use Rattle.refusal.specs.declared.faults.FileFault.TheVariants.{AtCapacity}
-use Rattle.frames.specs.Frames.{Frames, depth_of, told_depth, no_frame, is_windowed, is_full, is_last, word, with_word, saved, restored, read_answer, write_answer, write_after, save_answer, save_after}
+use Rattle.frames.specs.Frames.{Frames, depth_of, told_depth, no_frame, is_windowed, is_full, is_last, word, with_word, saved, restored, read_answer, write_after, save_answer, save_after}
 use Rattle.frames.specs.Flat.{base, eight, frame_at, flat_frames, flat_place, flat_opened, flat_caller}
 use Rattle.frames.specs.FlatShape.{depth_flat}
 use Rattle.frames.proofs.Registers.{word_out, word_local, word_in}
@@ -145,13 +145,6 @@ restored_flat ws top most p t =
 pub same_flat : {ws xs : List ℕ} {top top' most most' : ℕ} → ws ≡ xs → top ≡ top' → most ≡ most' → flat_frames ws top most ≡ flat_frames xs top' most'
 same_flat a b c = λ i. flat_frames (a i) (b i) (c i)
 
--- a place that was found is that of a register of the file
-pub record Placed (top r at : ℕ) : Type 0 where
-  pub low : 8 ≤ r
-  pub high : r < 32
-  pub is : is_windowed r ≡ true
-  pub place : at ≡ base top + (r - 8)
-
 found_if : (b : Bool) (p at : ℕ) (e : FileFault) → Ok at ≡ cond b (Ok p) (Err e) → (b ≡ true) × (at ≡ p)
 found_if true p at e h = (refl, cc)
 found_if false p at e h = absurd (let z : ◌≡◌ {A = ℕ} 0 1 = cc in omega arith)
@@ -160,23 +153,19 @@ missed_if : (b : Bool) (p : ℕ) (d e : FileFault) → Err d ≡ cond b (Ok p) (
 missed_if true p d e h = absurd (let z : ◌≡◌ {A = ℕ} 0 1 = cc in omega arith)
 missed_if false p d e h = (refl, cc)
 
-pub placed : (top r at : ℕ) → Ok at ≡ flat_place top r → Placed top r at
-placed top r at h =
-    let f = found_if (is_windowed r) (base top + (r - 8)) at _ h in
-    let parts = and_parts (leb 8 r) (ltb r 32) f.0 in
-    record { low = leb-true 8 r parts.0; high = ltb-true r 32 parts.1; is = f.0; place = f.1 }
+-- a register of the file, read and written
+module _ (ws : List ℕ) (top most r : ℕ) (is : is_windowed r ≡ true) where
+  private_low : 8 ≤ r
+  private_low = leb-true 8 r (and_parts (leb 8 r) (ltb r 32) is).0
 
-pub read_flat : (ws : List ℕ) (top most r at : ℕ) → Placed top r at → Ok (get_or ws at 0) ≡ read_answer (flat_frames ws top most) r
-read_flat ws top most r at p =
-    let e = ap (λ (k : ℕ). get_or ws k 0) p.place ∙ sym (word_flat ws top most r p.low p.high) in
-    ap (λ (w : ℕ). Ok w) e ∙ sym (cond-true (is_windowed r) _ _ p.is)
+  private_high : r < 32
+  private_high = ltb-true r 32 (and_parts (leb 8 r) (ltb r 32) is).1
 
-pub write_accepted : (top r at : ℕ) → Placed top r at → Ok tt ≡ write_answer r
-write_accepted top r at p = sym (cond-true (is_windowed r) _ _ p.is)
+  pub read_flat : Ok (get_or ws (flat_place top r) 0) ≡ read_answer (flat_frames ws top most) r
+  read_flat = ap (λ (w : ℕ). Ok w) (sym (word_flat ws top most r private_low private_high)) ∙ sym (cond-true (is_windowed r) _ _ is)
 
-pub write_flat : (ws : List ℕ) (top most r v at : ℕ) → top ≤ 255 → Placed top r at → flat_frames (set ws at v) top most ≡ write_after (flat_frames ws top most) r v
-write_flat ws top most r v at few p =
-    ap (λ (k : ℕ). flat_frames (set ws k v) top most) p.place ∙ with_word_flat ws top most r v few p.low p.high ∙ sym (cond-true (is_windowed r) _ _ p.is)
+  pub write_flat : (v : ℕ) → top ≤ 255 → flat_frames (set ws (flat_place top r) v) top most ≡ write_after (flat_frames ws top most) r v
+  write_flat v few = with_word_flat ws top most r v few private_low private_high ∙ sym (cond-true (is_windowed r) _ _ is)
 
 -- a save opens a frame, or is refused
 module _ (ws : List ℕ) (top most : ℕ) (within : top < most) (few : most ≤ 256) where

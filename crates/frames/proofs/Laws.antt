@@ -4,9 +4,8 @@ use Rattle.refusal.specs.declared.faults.FileFault.{FileFault}
 use Rattle.frames.specs.declared.calls.Call.{Call}
 use Rattle.frames.specs.declared.calls.Call.TheVariants.{Save, Restore, Read, Write, Depth, Spare}
 use Rattle.frames.specs.Frames.{Frames, all_frames, no_frame, is_full, is_last, is_windowed, with_word, saved, restored}
-use Rattle.frames.specs.Calls.{answer_to, after_call, is_refusal, acceptance}
+use Rattle.frames.specs.Calls.{Answer, answer_to, after_call, is_refusal, acceptance}
 use Rattle.frames.specs.Laws.{Performed, FrameLaws, RefusalsChangeNothing, CapacityIsFixed, RestoreUndoesSave, OutsBecomeIns, InsBecomeOuts}
-use Rattle.frames.specs.declared.calls.Answer.{Answer}
 use Rattle.frames.specs.declared.frame.Frame.{Frame}
 use Rattle.std.proofs.lemmas.List.{length_push, take_at, get_or_at}
 use Rattle.frames.proofs.Callers.{callers_keep_their_frames}

@@ -3,12 +3,12 @@
 use Rattle.std.specs.Prelude.{◌≡◌, ℕ, ◌+◌, ◌-◌, ◌*◌, Bool, true, false, cond, ◌&&◌, List, map, take, drop, Ok, Err, Result, nat_le, nat_lt}
 use Rattle.std.specs.List.{range_with_len}
 use Rattle.refusal.specs.declared.faults.FileFault.{FileFault}
-use Rattle.refusal.specs.declared.faults.FileFault.TheVariants.{NoSuchRegister, AtCapacity, LastFrame}
+use Rattle.refusal.specs.declared.faults.FileFault.TheVariants.{AtCapacity, LastFrame}
 use Rattle.refusal.specs.declared.faults.SetupFault.{SetupFault}
 use Rattle.refusal.specs.declared.faults.SetupFault.TheVariants.{FlatCapacity}
 use Rattle.frames.specs.declared.frame.Frame.{Frame}
 use Rattle.frames.specs.declared.flat.FlatFile.{FlatFile}
-use Rattle.frames.specs.Frames.{Frames, frame_of, fresh, is_windowed}
+use Rattle.frames.specs.Frames.{Frames, frame_of, fresh}
 
 -- where frame i's window begins
 abbrev pub base : ℕ → ℕ
@@ -37,9 +37,9 @@ flat_opened top capacity = cond (nat_lt (top + 1) capacity) (Ok (top + 1)) (Err 
 abbrev pub flat_caller : ℕ → Result ℕ FileFault
 flat_caller top = cond (nat_lt 0 top) (Ok (top - 1)) (Err (LastFrame 1))
 
--- where a register's word lies
-abbrev pub flat_place : ℕ → ℕ → Result ℕ FileFault
-flat_place top r = cond (is_windowed r) (Ok (base top + (r - 8))) (Err (NoSuchRegister r))
+-- where the word of register r lies
+abbrev pub flat_place : ℕ → ℕ → ℕ
+flat_place top r = base top + (r - 8)
 
 -- capacities from 1 to 256
 abbrev pub is_flat_capacity : ℕ → Bool

@@ -1,9 +1,8 @@
 -- Laws of every register file, over the definitions that the contracts cite.
 use Rattle.std.specs.Prelude.{◌≡◌, ℕ, ◌+◌, ◌<◌, true, List, [], ◌∷◌}
 use Rattle.frames.specs.declared.calls.Call.{Call}
-use Rattle.frames.specs.declared.calls.Answer.{Answer}
 use Rattle.frames.specs.Frames.{Frames, all_frames, depth_of, word, saved, restored}
-use Rattle.frames.specs.Calls.{answer_to, after_call, after_calls, is_refusal}
+use Rattle.frames.specs.Calls.{Answer, answer_to, after_call, after_calls, is_refusal}
 
 -- what one call does: it took the frames s to t and answered a
 pub record Performed (s : Frames) (c : Call) (a : Answer) (t : Frames) : Type 0 where

@@ -1,4 +1,6 @@
 pub mod Frames
+pub mod Registers
+pub mod Stillness
 pub mod Calls
 pub mod Laws
 pub mod Flat

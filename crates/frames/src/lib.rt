@@ -5,4 +5,5 @@ pub mod calls;
 pub mod file;
 pub mod flat;
 pub mod frame;
+pub mod register;
 pub mod texts;

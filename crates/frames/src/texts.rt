@@ -1,23 +1,19 @@
-// How an answer is written.
+// How a reply is written.
 ghost use Rattle.std.specs.Prelude.{Some};
-ghost use Rattle.frames.specs.Texts.{answer_text};
+ghost use Rattle.frames.specs.Texts.{reply_text};
 
-use crate::calls::Answer;
+use crate::calls::Reply;
 use std::fmt;
 
-impl fmt::Display for Answer {
-    ghost output = { λ a. Some (answer_text a) };
+impl fmt::Display for Reply {
+    ghost output = { λ r. Some (reply_text r) };
 
     fn fmt<W: fmt::Write>(&self, f: &mut fmt::Formatter<W>) -> fmt::Result {
-        match *self {
-            Answer::Accepted => write!(f, "ok"),
-            Answer::Word(word) => write!(f, "word {word}"),
-            Answer::Depth(frames) => write!(f, "depth {frames}"),
-            Answer::Spare(frames) => write!(f, "spare {frames}"),
-            Answer::Refused(fault) => {
-                let refusal = fault.refusal();
-                write!(f, "{refusal}")
-            }
+        match self {
+            Reply::Accepted => write!(f, "ok"),
+            Reply::Word(word) => write!(f, "word {word}"),
+            Reply::Depth(frames) => write!(f, "depth {frames}"),
+            Reply::Spare(frames) => write!(f, "spare {frames}"),
         }
     }
 }

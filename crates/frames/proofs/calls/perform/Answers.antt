@@ -6,5 +6,6 @@ returns g c =
     let ok = c.dispatch.ensures in
     record {
       performs_the_call = performed _ _ _ _ ok.answers_as_the_frames_do ok.holds_the_frames_after;
+      moves_as_the_file_does = ok.moves_as_the_file_does;
       frames_keep_their_laws = frame_laws;
     }

@@ -1,6 +1,6 @@
 use Rattle.std.proofs.Common.{arith}
 use Rattle.frames.specs.FlatShape.{depth_flat}
-use Rattle.frames.proofs.flat.methods.FlatFileRegisterFile.spare.Goals as goal
+use Rattle.frames.proofs.flat.FlatFileRegisterFile.spare.Goals as goal
 
 pub returns : goal.returns
 returns c =

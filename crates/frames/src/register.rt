@@ -1,0 +1,44 @@
+// The numbers of a register file's registers.
+ghost use Rattle.std.specs.Prelude.{◌≡◌, ◌-◌, ◌<◌, ◌≤◌};
+
+use refusal::faults::FileFault;
+
+// From 8 to 31: outs, locals and ins, eight of each.
+#[derive(Clone, Copy)]
+pub struct Register {
+    number: u32,
+    ghost low: { 8 ≤ number },
+    ghost high: { number < 32 },
+}
+
+impl TryFrom<u32> for Register {
+    ghost use Rattle.frames.specs.Registers.{MakesRegister};
+
+    type Error = FileFault;
+
+    ghost try_from_gives = { λ n r. MakesRegister n r };
+
+    fn try_from(number: u32) -> Result<Register, FileFault> {
+        if number < 8 || number > 31 {
+            return Err(FileFault::NoSuchRegister(number));
+        }
+        Ok(Register { number })
+    }
+}
+
+impl From<Register> for u32 {
+    ghost from_gives = { λ r n. n ≡ r.number };
+
+    fn from(register: Register) -> u32 {
+        register.number
+    }
+}
+
+impl Register {
+    // How many registers of a file stand before it.
+    pub fn offset(self) -> usize
+        ensures counts_from_the_first_out { result ≡ self.number - 8 }
+    {
+        (self.number - 8) as usize
+    }
+}
