@@ -37,10 +37,11 @@ impl<'a, T: Copy> Stack<'a, T> {
         ensures writes_the_next_place_alone { self.new.table.now ≡ table_after_put self.old element }
         ensures is_lent_that_table { self.new.table.ghost_name ≡ self.old.table.ghost_name }
     {
-        if self.is_full() {
+        if self.len == self.table.len() {
             return Err(StoreFault::Full(self.held()));
         }
-        self.append(element);
+        self.table[self.len] = element;
+        self.len += 1;
         Ok(())
     }
 
@@ -52,10 +53,11 @@ impl<'a, T: Copy> Stack<'a, T> {
         ensures writes_nothing { self.new.table.now ≡ self.old.table.now }
         ensures is_lent_that_table { self.new.table.ghost_name ≡ self.old.table.ghost_name }
     {
-        if self.is_empty() {
+        if self.len == 0 {
             return Err(StoreFault::Empty(self.held()));
         }
-        self.remove(to);
+        self.len -= 1;
+        *to = self.table[self.len];
         Ok(())
     }
 
@@ -71,40 +73,5 @@ impl<'a, T: Copy> Stack<'a, T> {
         ensures answers_as_the_list_does { result ≡ told (length self.now.table.now - length (contents self.now)) }
     {
         as_told(self.table.len() - self.len)
-    }
-
-    fn is_full(&self) -> bool
-        ensures { result ≡ (self.now.len == length self.now.table.now) }
-    {
-        self.len == self.table.len()
-    }
-
-    fn is_empty(&self) -> bool
-        ensures { result ≡ (self.now.len == 0) }
-    {
-        self.len == 0
-    }
-
-    // Writes the place after the newest.
-    fn append(&mut self, element: T)
-        requires { self.old.len < length self.old.table.now }
-        ensures writes_one_place { self.new.table.now ≡ slice_set self.old.table.now self.old.len element }
-        ensures is_one_longer { self.new.len ≡ self.old.len + 1 }
-        ensures is_lent_that_table { self.new.table.ghost_name ≡ self.old.table.ghost_name }
-    {
-        self.table[self.len] = element;
-        self.len += 1;
-    }
-
-    // Reads the place of the newest.
-    fn remove(&mut self, to: &mut T)
-        requires { 0 < self.old.len }
-        ensures writes_nothing { self.new.table.now ≡ self.old.table.now }
-        ensures is_one_shorter { self.new.len ≡ self.old.len - 1 }
-        ensures gives_that_place { to.new ≡ slice_index_or self.old.table.now (self.old.len - 1) to.old }
-        ensures is_lent_that_table { self.new.table.ghost_name ≡ self.old.table.ghost_name }
-    {
-        self.len -= 1;
-        *to = self.table[self.len];
     }
 }
