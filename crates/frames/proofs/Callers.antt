@@ -1,5 +1,6 @@
 -- What a callee does leaves the frames of its callers alone.
-use Rattle.std.proofs.Common.{◌≡◌, ℕ, ◌+◌, ◌-◌, ◌<◌, Bool, true, false, cond, ltb, List, [], ◌∷◌, length, take, sym, refl, ap, ◌∙◌, arith}
+use Rattle.std.proofs.Common.{◌≡◌, ℕ, ◌+◌, ◌-◌, ◌<◌, ltb, List, [], ◌∷◌, length, take, sym, refl, ap, ◌∙◌, arith}
+use Rattle.std.proofs.lemmas.Bool.{cond_both}
 use Rattle.std.proofs.lemmas.List.{length_push, length-take, take_all, take-append-le, take_more, take-take}
 use Rattle.frames.specs.declared.calls.Call.{Call}
 use Rattle.frames.specs.declared.calls.Call.TheVariants.{Save, Restore, Read, Write, Depth, Spare}
@@ -22,14 +23,11 @@ all_restored s some =
 Holds : List Frame → ℕ → Frames → Type 0
 Holds bs n t = take n t.older ≡ bs
 
-either : (P : Frames → Type 0) (b : Bool) (s t : Frames) → P s → P t → P (cond b s t)
-either P true s t h k = h
-either P false s t h k = k
-
 older_with_word : (s : Frames) (r v : ℕ) → (with_word s r v).older ≡ s.older
 unfolding with_word
 older_with_word s r v =
-    either (λ (t : Frames). t.older ≡ s.older) (ltb r 16) _ _ refl (either (λ (t : Frames). t.older ≡ s.older) (ltb r 24) _ _ refl refl)
+    let Same : Frames → Type 0 = λ t. t.older ≡ s.older in
+    cond_both (ltb r 16) _ _ Same (λ _. refl) (λ _. cond_both (ltb r 24) _ _ Same (λ _. refl) (λ _. refl))
 
 module _ (bs : List Frame) (n : ℕ) where
   holds_saved : (s : Frames) → n < depth_of s → Holds bs n s → Holds bs n (saved s)
@@ -42,19 +40,15 @@ module _ (bs : List Frame) (n : ℕ) where
       let few = length-take (length s.older - 1) s.older in
       take-take n (length s.older - 1) s.older (omega arith) ∙ h
 
-  unless_last : (b : Bool) (s : Frames) → n < depth_of (cond b s (restored s)) → Holds bs n s → Holds bs n (cond b s (restored s))
-  unless_last true s deep h = h
-  unless_last false s deep h = holds_restored s deep h
-
   holds_written : (s : Frames) (r v : ℕ) → Holds bs n s → Holds bs n (with_word s r v)
   unfolding Holds
   holds_written s r v h = ap (take n) (older_with_word s r v) ∙ h
 
   holds_more : (s : Frames) (c : Call) → n < depth_of s → n < depth_of (after_call s c) → Holds bs n s → Holds bs n (after_call s c)
-  holds_more s Save deep after h = either (Holds bs n) (is_full s) s (saved s) h (holds_saved s deep h)
-  holds_more s Restore deep after h = unless_last (is_last s) s after h
+  holds_more s Save deep after h = cond_both (is_full s) s (saved s) (Holds bs n) (λ _. h) (λ _. holds_saved s deep h)
+  holds_more s Restore deep after h = cond_both (is_last s) s (restored s) (λ t. n < depth_of t → Holds bs n t) (λ _ _. h) (λ _ deep. holds_restored s deep h) after
   holds_more s (Read r) deep after h = h
-  holds_more s (Write r v) deep after h = either (Holds bs n) (is_windowed r) (with_word s r v) s (holds_written s r v h) h
+  holds_more s (Write r v) deep after h = cond_both (is_windowed r) (with_word s r v) s (Holds bs n) (λ _. holds_written s r v h) (λ _. h)
   holds_more s Depth deep after h = h
   holds_more s Spare deep after h = h
 

@@ -7,6 +7,7 @@ use Rattle.frames.specs.Frames.{Frames, all_frames, no_frame, is_full, is_last, 
 use Rattle.frames.specs.Calls.{Answer, answer_to, after_call, is_refusal, acceptance}
 use Rattle.frames.specs.Laws.{Performed, FrameLaws, RefusalsChangeNothing, CapacityIsFixed, RestoreUndoesSave, OutsBecomeIns, InsBecomeOuts}
 use Rattle.frames.specs.declared.frame.Frame.{Frame}
+use Rattle.std.proofs.lemmas.Bool.{cond_both}
 use Rattle.std.proofs.lemmas.List.{length_push, take_at, get_or_at}
 use Rattle.frames.proofs.Callers.{callers_keep_their_frames}
 use Rattle.frames.proofs.Same.{same_frames}
@@ -29,20 +30,20 @@ refusals_change_nothing s (Write r v) h = refused_unless (is_windowed r) s (with
 refusals_change_nothing s Depth h = refl
 refusals_change_nothing s Spare h = refl
 
-either_capacity : (b : Bool) (s t : Frames) (n : ℕ) → s.capacity ≡ n → t.capacity ≡ n → (cond b s t).capacity ≡ n
-either_capacity true s t n h k = h
-either_capacity false s t n h k = k
+-- t may hold as many frames as s
+Alike : Frames → Frames → Type 0
+Alike s t = t.capacity ≡ s.capacity
 
 capacity_with_word : (s : Frames) (r v : ℕ) → (with_word s r v).capacity ≡ s.capacity
-unfolding with_word
-capacity_with_word s r v = either_capacity (ltb r 16) _ _ s.capacity refl (either_capacity (ltb r 24) _ _ s.capacity refl refl)
+unfolding with_word Alike
+capacity_with_word s r v = cond_both (ltb r 16) _ _ (Alike s) (λ _. refl) (λ _. cond_both (ltb r 24) _ _ (Alike s) (λ _. refl) (λ _. refl))
 
 pub capacity_is_fixed : CapacityIsFixed
-unfolding saved restored
-capacity_is_fixed s Save = either_capacity (is_full s) s (saved s) s.capacity refl refl
-capacity_is_fixed s Restore = either_capacity (is_last s) s (restored s) s.capacity refl refl
+unfolding saved restored Alike
+capacity_is_fixed s Save = cond_both (is_full s) s (saved s) (Alike s) (λ _. refl) (λ _. refl)
+capacity_is_fixed s Restore = cond_both (is_last s) s (restored s) (Alike s) (λ _. refl) (λ _. refl)
 capacity_is_fixed s (Read r) = refl
-capacity_is_fixed s (Write r v) = either_capacity (is_windowed r) (with_word s r v) s s.capacity (capacity_with_word s r v) refl
+capacity_is_fixed s (Write r v) = cond_both (is_windowed r) (with_word s r v) s (Alike s) (λ _. capacity_with_word s r v) (λ _. refl)
 capacity_is_fixed s Depth = refl
 capacity_is_fixed s Spare = refl
 
