@@ -1,7 +1,6 @@
 // The window ring: a register file over any save store and any spill policy.
 #![tactic(auto)]
 
-pub mod calls;
 pub mod counts;
 pub mod residency;
 pub mod ring;

@@ -1,7 +1,7 @@
 // What a ring answers as a register file, and what it moves.
-ghost use Rattle.std.specs.Prelude.{◌≡◌, ◌+◌, min};
+ghost use Rattle.std.specs.Prelude.{◌≡◌, ◌+◌, min, refl};
 ghost use Rattle.frames.specs.Frames.{save_answer, save_after, restore_answer, restore_after, write_answer, write_after};
-ghost use Rattle.ring.specs.Movements.{moving, room_for_frames, saves, restores};
+ghost use Rattle.ring.specs.Movements.{moving, moves_by, room_for_frames, saves, restores};
 ghost use Rattle.ring.specs.Rings.{frames_of};
 ghost use Rattle.ring.specs.RingShape.{ring_shape};
 ghost use Rattle.ring.specs.Transfers.{Spills, Fills};
@@ -35,6 +35,10 @@ impl<S: SaveStore, P: SpillPolicy> RegisterFile for WindowRing<S, P> {
     ghost state = { λ x. frames_of S.SaveStore x };
 
     ghost shape = { λ x. ring_shape S.SaveStore x };
+
+    ghost Moves = { λ x c y. moving S.SaveStore y ≡ moves_by P.SpillPolicy (moving S.SaveStore x) c };
+
+    ghost asking = { λ x. record { read = λ r. refl; depth = refl; spare = refl } };
 
     fn read(&self, register: u32) -> Result<u32, FileFault> {
         if register < 8 || register > 31 {
