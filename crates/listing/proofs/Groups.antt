@@ -1,9 +1,7 @@
--- The eight words of a group: how the loop finds them, and what they are.
-use Rattle.std.proofs.Common.{◌≡◌, ℕ, ◌+◌, ◌<◌, ◌≤◌, List, length, get_or, set, Result, sym, refl, ap, ◌∙◌, arith}
+-- The eight words of a group.
+use Rattle.std.proofs.Common.{◌≡◌, ℕ, ◌<◌, ◌≤◌, List, get_or, Result, sym, refl, ap, ◌∙◌}
 use Rattle.std.specs.Result.{result_unwrap_or}
-use Rattle.std.proofs.lemmas.List.FromFn.{length-map-range_with_len, get_or-map-range_with_len, fill_by_all}
-use Rattle.std.proofs.lemmas.List.Edits.{fill_by_more}
-use Rattle.std.proofs.lemmas.List.{ext_get_or, length-set}
+use Rattle.std.proofs.lemmas.List.FromFn.{fill_by_all}
 use Rattle.std.proofs.lemmas.Bool.{cond-true}
 use Rattle.frames.proofs.Registers.{windowed}
 use Rattle.refusal.specs.declared.faults.FileFault.{FileFault}
@@ -15,18 +13,6 @@ pub read_word : (s : Frames) (r : ℕ) (answer : Result ℕ FileFault) (v : ℕ)
 read_word s r answer v low high told took =
     took
     ∙ ap (λ (a : Result ℕ FileFault). result_unwrap_or a 0) (told ∙ cond-true (is_windowed r) _ _ (windowed r low high))
-
-module _ (s : Frames) (first : ℕ) (words : List ℕ) where
-  pub words_more : (i v : ℕ) → i < 8 → length words ≡ 8 → ((k : ℕ) → k < i → get_or words k 0 ≡ word s (first + k)) → v ≡ word s (first + i) → (length (set words i v) ≡ 8) × ((k : ℕ) → k < i + 1 → get_or (set words i v) k 0 ≡ word s (first + k))
-  words_more i v within long before is =
-      let here : i < length words = omega arith in
-      (length-set words i v ∙ long, λ k h. ap (λ (w : ℕ). get_or (set words i w) k 0) is ∙ fill_by_more (λ k. word s (first + k)) words i 0 here before k h)
-
-  pub words_all : length words ≡ 8 → ((k : ℕ) → k < 8 → get_or words k 0 ≡ word s (first + k)) → words ≡ eight_words s first
-  unfolding eight_words
-  words_all long found =
-      ext_get_or 0 words (eight_words s first) (long ∙ sym (length-map-range_with_len (word s) first 8))
-      (λ i h. let below : i < 8 = omega arith in found i below ∙ sym (get_or-map-range_with_len (word s) first 8 i (first + i) 0 below refl))
 
 pub outs_words : (s : Frames) → Shaped s → eight_words s 8 ≡ s.outs
 unfolding word eight_words

@@ -1,3 +1,2 @@
 mod Groups
-mod Lines
 mod Unwound

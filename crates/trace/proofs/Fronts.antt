@@ -1,8 +1,8 @@
 -- What stands at the front of a text, before a space, is read in one way.
-use Rattle.std.proofs.Common.{◌≡◌, ℕ, ◌+◌, ◌^◌, ◌<◌, List, ◌∷◌, ◌++◌, length, get_or, take, drop, codes, decimal, sym, refl, ap, ◌∙◌, append_assoc, arith}
+use Rattle.std.proofs.Common.{◌≡◌, ℕ, ◌^◌, ◌<◌, List, ◌∷◌, ◌++◌, length, get_or, drop, codes, decimal, sym, refl, ap, ◌∙◌, append_assoc, arith}
 use Rattle.std.proofs.lemmas.Fmt.{decimal_injective}
-use Rattle.std.proofs.lemmas.List.{take-append-drop, drop_more, drop-drop, get_or_append_left, get_or_at, take_at, drop_at, length-append}
-use Rattle.trace.specs.Lines.{First, before, after}
+use Rattle.std.proofs.lemmas.List.{drop-drop, get_or_append_left, get_or_at, take_at, drop_at, length-append}
+use Rattle.trace.specs.Lines.{before, after}
 use Rattle.trace.specs.Texts.{Small, SmallPair, pair_text}
 use Rattle.trace.proofs.Decimals.{only_digits}
 use Rattle.trace.proofs.LineLaws.{split_at}
@@ -11,11 +11,6 @@ use Rattle.trace.proofs.LineLaws.{split_at}
 abbrev pub OneFront : {X : Type 0} → (X → Type 0) → (X → List ℕ) → Type 0
 OneFront {X} Small text =
     (x y : X) (xs ys : List ℕ) → Small x → Small y → text x ++ (codes " " ++ xs) ≡ text y ++ (codes " " ++ ys) → (x ≡ y) × (xs ≡ ys)
-
--- a list, parted where an element stands
-pub parted : (bs : List ℕ) (i b : ℕ) → i < length bs → get_or bs i 0 ≡ b → bs ≡ take i bs ++ (b ∷ drop (i + 1) bs)
-parted bs i b h e =
-    sym (take-append-drop i bs) ∙ ap (λ l. take i bs ++ l) (drop_more bs i 0 h ∙ ap (λ x. x ∷ drop (i + 1) bs) e)
 
 module _ (n : ℕ) (rest : List ℕ) where
   longer : length (decimal n) < length (decimal n ++ (32 ∷ rest))
@@ -53,21 +48,17 @@ one_pair p q xs ys small also e =
     let right = one_number p.1 q.1 xs ys small.1 also.1 left.1 in
     ((λ i. (left.0 i, right.0 i)), right.1)
 
--- where the first space of such a text stands
-module _ (bs : List ℕ) (i n : ℕ) (rest : List ℕ) (space : First bs 32 i) (small : Small n) (e : bs ≡ decimal n ++ (32 ∷ rest)) where
-  pub space_within : length bs ≡ i → ⊥
-  space_within none =
-      let long : length bs ≡ length (decimal n ++ (32 ∷ rest)) = ap length e in
-      space.before (length (decimal n)) (omega (arith, longer n rest)) (ap (λ l. get_or l (length (decimal n)) 0) e ∙ space_there n rest)
+-- such a text is cut at its first space
+module _ (bs : List ℕ) (n : ℕ) (rest : List ℕ) (small : Small n) (e : bs ≡ decimal n ++ (32 ∷ rest)) where
+  pub front_is : before 32 bs ≡ decimal n
+  front_is = ap (before 32) e ∙ (number_parts n rest small).0
 
-  pub front_is : i < length bs → take i bs ≡ decimal n
-  front_is h =
-      sym (split_at 32 bs i h space.before (space.found h)).0 ∙ ap (before 32) e ∙ (number_parts n rest small).0
+  pub cut_there : before 32 bs ≡ bs → ⊥
+  cut_there whole =
+      let same : length bs ≡ length (decimal n) = ap length (sym whole ∙ front_is) in
+      let long : length bs ≡ length (decimal n ++ (32 ∷ rest)) = ap length e in omega (arith, longer n rest)
 
--- a text whose front has been read, and of which more is known
+-- a text whose front has been read goes on in one way
 module _ {X : Type 0} (text : X → List ℕ) (x : X) {line rest : List ℕ} (front : line ≡ text x ++ (codes " " ++ rest)) where
-  pub front_then : (more : List ℕ) → rest ≡ more → line ≡ text x ++ (codes " " ++ more)
-  front_then more e = front ∙ ap (λ (l : List ℕ). text x ++ (codes " " ++ l)) e
-
   pub same_rest : {Small : X → Type 0} → OneFront Small text → Small x → (y : X) (more : List ℕ) → Small y → line ≡ text y ++ (codes " " ++ more) → rest ≡ more
   same_rest one small y more also e = (one x y rest more small also (sym front ∙ e)).1

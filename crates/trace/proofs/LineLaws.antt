@@ -1,6 +1,9 @@
 -- The lines of a text, one after another: what a loop over them goes by.
-use Rattle.std.proofs.Common.{◌≡◌, ℕ, zero, suc, ◌+◌, ◌<◌, ◌≤◌, Bool, true, false, cond, eqb, List, [], ◌∷◌, length, get_or, take, drop, sym, refl, ap, ◌∙◌, arith}
-use Rattle.std.proofs.lemmas.Bool.{cond-true, cond-false, eq-eqb, ne_eqb}
+use Rattle.std.proofs.Common.{◌≡◌, ℕ, zero, suc, ◌+◌, ◌<◌, ◌≤◌, Bool, true, false, cond, eqb, List, [], ◌∷◌, ◌++◌, length, get_or, take, drop, position, Some, None, sym, refl, ap, ◌∙◌, arith}
+use Rattle.std.proofs.lemmas.Bool.{cond-true, cond-false, eq-eqb, ne_eqb, eqb-true, eqb-false, ltb-false}
+use Rattle.std.proofs.lemmas.List.{take-append-drop, drop_more}
+use Rattle.std.proofs.lemmas.List.Quantifiers.{position-Some}
+use Rattle.std.proofs.lemmas.List.Sums.{fails_before_first}
 use Rattle.trace.specs.Lines.{onto, lines, before, after, first_line, after_line}
 
 module _ (byte : ℕ) where
@@ -24,6 +27,23 @@ module _ (byte : ℕ) where
         cond-false (eqb b byte) [] (b ∷ before byte bs) other ∙ ap (λ (l : List ℕ). b ∷ l) rest.0,
         cond-false (eqb b byte) bs (after byte bs) other ∙ rest.1,
       )
+
+  -- the same, by where the byte is found
+  pub cut_at : (bs : List ℕ) (i : ℕ) → Some i ≡ position (λ b. eqb b byte) bs → (take i bs ≡ before byte bs) × (drop (i + 1) bs ≡ after byte bs) × (bs ≡ take i bs ++ byte ∷ drop (i + 1) bs)
+  cut_at bs i found =
+      let at = position-Some (λ b. eqb b byte) bs i 0 (sym found) in
+      let here : get_or bs i 0 ≡ byte = eqb-true _ byte at.1 in
+      let parts = split_at bs i at.0 (λ k l. eqb-false _ byte (at.2 k l)) here in
+      (sym parts.0, sym parts.1, sym (take-append-drop i bs) ∙ ap (λ (l : List ℕ). take i bs ++ l) (drop_more bs i 0 at.0 ∙ ap (λ x. x ∷ drop (i + 1) bs) here))
+
+  found_past : (t : Bool) (n : ℕ) → None ≡ cond t (Some n) None → t ≡ false
+  found_past true n e = cc
+  found_past false n e = refl
+
+  pub not_cut : (bs : List ℕ) → None ≡ position (λ b. eqb b byte) bs → (before byte bs ≡ bs) × (after byte bs ≡ [])
+  not_cut bs none =
+      let past = ltb-false _ _ (found_past _ _ none) in
+      not_split bs (λ k l. eqb-false _ byte (fails_before_first (λ b. eqb b byte) bs k 0 (omega (arith, past))))
 
 cut_by : (t : Bool) (b : ℕ) (bs : List ℕ) → (0 < length bs → lines bs ≡ first_line bs ∷ lines (after_line bs)) → cond t ([] ∷ lines bs) (onto b (lines bs)) ≡ cond t [] (b ∷ first_line bs) ∷ lines (cond t bs (after_line bs))
 cut_by true b bs more = refl

@@ -1,3 +1,4 @@
 pub mod Texts
 pub mod Lines
+pub mod Numbered
 pub mod Setups

@@ -1,5 +1,6 @@
 -- The lines of a text.
-use Rattle.std.specs.Prelude.{◌≡◌, ℕ, ◌<◌, ◌≤◌, cond, List, [], ◌∷◌, length, ◌==◌, ◌≢◌, slice_index}
+use Rattle.std.specs.Prelude.{◌≡◌, ℕ, cond, List, [], ◌∷◌, ◌++◌, ◌==◌, Option, Some, None}
+use Rattle.std.specs.Borrow.{Bor}
 
 -- a byte put before the first line
 abbrev pub onto : ℕ → List (List ℕ) → List (List ℕ)
@@ -27,8 +28,7 @@ first_line = before 10
 abbrev pub after_line : List ℕ → List ℕ
 after_line = after 10
 
--- the byte b stands first at i; where it stands nowhere, i is the length
-pub record First (bs : List ℕ) (b i : ℕ) : Type 0 where
-  pub within : i ≤ length bs
-  pub before : (k : ℕ) → k < i → slice_index bs k ≢ b
-  pub found : i < length bs → slice_index bs i ≡ b
+-- a text cut in two where the byte stands first; where it stands nowhere, the text is left whole
+abbrev pub Cut : ℕ → List ℕ → Option (Bor (List ℕ) × Bor (List ℕ)) → Type 0
+Cut byte bs (Some x) = (x.0.now ≡ before byte bs) × (x.1.now ≡ after byte bs) × (bs ≡ x.0.now ++ byte ∷ x.1.now)
+Cut byte bs None = (before byte bs ≡ bs) × (after byte bs ≡ [])

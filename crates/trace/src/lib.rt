@@ -2,6 +2,7 @@
 #![tactic(auto)]
 
 pub mod lines;
+pub mod numbered;
 pub mod numbers;
 pub mod requests;
 pub mod setups;

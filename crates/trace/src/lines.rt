@@ -1,23 +1,19 @@
 // Where a line ends.
-ghost use Rattle.std.specs.Prelude.{◌≡◌};
-ghost use Rattle.trace.specs.Lines.{First, first_line, after_line};
+ghost use Rattle.std.specs.Prelude.{◌≡◌, ◌==◌, position};
+ghost use Rattle.trace.specs.Lines.{Cut, first_line, after_line};
 
-// Where a byte stands first in a text, or the text's length.
-pub(crate) fn first_of(text: &[u8], byte: u8) -> usize
-    ensures { First text.now byte result }
+fn first_of(text: &[u8], byte: u8) -> Option<usize>
+    ensures { result ≡ position (λ b. b == byte) text.now }
 {
-    for (i, b) in text.iter().enumerate() {
-        if *b == byte {
-            return i;
-        }
-    }
-    text.len()
+    text.iter().position(|b| *b == byte)
 }
 
-fn line_end(text: &[u8]) -> usize
-    ensures { First text.now 10 result }
+// What stands before a byte, where it stands first, and what stands after it.
+pub(crate) fn split_once(text: &[u8], byte: u8) -> Option<(&[u8], &[u8])>
+    ensures { Cut byte text.now result }
 {
-    first_of(text, b'\n')
+    let at = first_of(text, byte)?;
+    Some((&text[..at], &text[at + 1..]))
 }
 
 // The first line of a text, and what follows its end.
@@ -25,9 +21,5 @@ pub fn split_line(text: &[u8]) -> (&[u8], &[u8])
     ensures gives_the_first_line { result.0.now ≡ first_line text.now }
     ensures gives_what_follows { result.1.now ≡ after_line text.now }
 {
-    let end = line_end(text);
-    if end == text.len() {
-        return (text, &text[end..]);
-    }
-    (&text[0..end], &text[end + 1..])
+    split_once(text, b'\n').unwrap_or((text, &[]))
 }

@@ -2,7 +2,8 @@
 ghost use Rattle.trace.specs.Setups.{SmallPolicy, policy_text, SmallStore, store_text, SmallRing, ring_text, SmallSetup, setup_text};
 ghost use Rattle.trace.specs.Texts.{Reads, ReadsFront};
 
-use crate::numbers::{number_front, pair_front, read_number};
+use crate::numbers::{number_front, pair_front};
+use crate::requests::read_flat;
 
 // How many windows a ring moves at a time.
 #[derive(Clone, Copy)]
@@ -36,13 +37,10 @@ pub enum Setup {
 pub fn read_setup(line: &[u8]) -> Option<Setup>
     ensures reads_exactly_the_setups { Reads SmallSetup setup_text line.now result }
 {
-    if let Some(capacity) = line.strip_prefix(b"flat ") {
-        return Some(Setup::Flat(read_number(capacity)?));
+    match line.strip_prefix(b"ring ") {
+        Some(words) => read_ring(words).map(Setup::Ring),
+        None => read_flat(line).map(Setup::Flat),
     }
-    if let Some(words) = line.strip_prefix(b"ring ") {
-        return Some(Setup::Ring(read_ring(words)?));
-    }
-    None
 }
 
 // What follows the word `ring`.
@@ -60,24 +58,19 @@ fn read_ring(words: &[u8]) -> Option<RingSetup>
 }
 
 // A policy that a space ends, and what follows.
+#[tactic(auto, using(crate::proofs::OneSetup::fixed_only))]
 fn policy_front(words: &[u8]) -> Option<(PolicySetup, &[u8])>
     ensures { ReadsFront SmallPolicy policy_text words.now result }
 {
     if let Some(rest) = words.strip_prefix(b"adaptive ") {
         return Some((PolicySetup::Adaptive, rest));
     }
-    if let Some(amounts) = words.strip_prefix(b"fixed ") {
-        let ((spill, fill), rest) = pair_front(amounts)?;
-        return Some((PolicySetup::Fixed(spill, fill), rest));
-    }
-    None
+    let ((spill, fill), rest) = pair_front(words.strip_prefix(b"fixed ")?)?;
+    Some((PolicySetup::Fixed(spill, fill), rest))
 }
 
 fn read_store(words: &[u8]) -> Option<StoreSetup>
     ensures { Reads SmallStore store_text words.now result }
 {
-    if let Some(capacity) = words.strip_prefix(b"flat ") {
-        return Some(StoreSetup::Flat(read_number(capacity)?));
-    }
-    None
+    read_flat(words).map(StoreSetup::Flat)
 }
