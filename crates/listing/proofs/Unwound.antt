@@ -36,16 +36,16 @@ module _ (s : Frames) (r : Result (Unit {0}) FileFault) (answer : r ≡ restore_
         let same : length t.older ≡ length (restored s).older = ap (λ (u : Frames). length u.older) (after ∙ after_more s more) in
         omega (arith, shorter s more)
 
-    -- the list of the frames taken is read newest first
-    pub turn : (all vs ws : List Frame) (f : Frame) → s.older ++ reverse vs ≡ all → f ≡ t.newest → ws ≡ vs ++ f ∷ [] → t.older ++ reverse ws ≡ all
-    turn all vs ws f sofar newest put =
-        ap (λ (fs : List Frame). t.older ++ fs) (ap reverse (put ∙ ap (λ (x : Frame). vs ++ x ∷ []) newest) ∙ reverse-append vs (t.newest ∷ []))
-        ∙ sym (append_assoc t.older (t.newest ∷ []) (reverse vs))
-        ∙ ap (λ (fs : List Frame). fs ++ reverse vs) (ap all_frames (after ∙ after_more s more) ∙ one_less s more)
-        ∙ sofar
+    pub one_moved : t.older ++ t.newest ∷ [] ≡ s.older
+    one_moved = ap all_frames (after ∙ after_more s more) ∙ one_less s more
 
   pub end : false ≡ is_ok r → (all vs : List Frame) → s.older ++ reverse vs ≡ all → vs ≡ reverse all
   end refused all vs sofar =
       let last = stopped (is_last s) _ (refused ∙ ap is_ok answer) in
       let none : s.older ≡ [] = nil_from_length s.older (omega (arith, eqb-true (depth_of s) 1 last)) in
       sym (reverse-reverse vs) ∙ ap reverse (ap (λ (fs : List Frame). fs ++ reverse vs) (sym none) ∙ sofar)
+
+-- the list of the frames taken is read newest first
+pub newest_first : (xs ys : List Frame) (f : Frame) → xs ++ reverse (ys ++ f ∷ []) ≡ (xs ++ f ∷ []) ++ reverse ys
+newest_first xs ys f =
+    ap (λ (fs : List Frame). xs ++ fs) (reverse-append ys (f ∷ [])) ∙ sym (append_assoc xs (f ∷ []) (reverse ys))
