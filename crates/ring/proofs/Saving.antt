@@ -16,7 +16,7 @@ use Rattle.ring.specs.Movements.{Movement, gone_down, moving, overflow_counted, 
 use Rattle.ring.specs.Residencies.{Stands}
 use Rattle.ring.specs.Rings.{frames_of, ring_frames}
 use Rattle.ring.specs.RingShape.{depth_ring}
-use Rattle.ring.specs.Tables.{count_of, pointer_of, resident_of}
+use Rattle.ring.specs.Tables.{count_of, pointer_of, resident_of, words_of}
 use Rattle.ring.specs.Transfers.{Spilled, Spills}
 use Rattle.ring.specs.Words.{cleared, residents, upper}
 use Rattle.ring.proofs.Movements.{SameNumbers, same_movement, same_moving, save_fits, save_refused, save_overflows}
@@ -50,7 +50,7 @@ module _ {S P : Type 0} (s : Store S) (r : Policy P) (x : WindowRing S P) where
   few = let h = t.residency.within_the_limit in let l = t.residency.windows.some_resident in omega arith
 
   depth : depth_of (frames_of s x) ≡ length xs + resident_of t
-  depth = depth_ring xs (s.capacity x.store) t.words (count_of t) (pointer_of t) (resident_of t) some
+  depth = depth_ring xs (s.capacity x.store) (words_of t) (count_of t) (pointer_of t) (resident_of t) some
 
   module _ (room : m.held + m.resident < most_resident m.windows + m.room) where
     not_full : is_full (frames_of s x) ≡ false
@@ -65,18 +65,18 @@ module _ {S P : Type 0} (s : Store S) (r : Policy P) (x : WindowRing S P) where
   -- the pointer went down and k windows to the store, which is now st
   module _ (u : Windows) (st : S) (po : P) (cs : Counts) (k : ℕ)
       (stands : Stands u.residency (count_of t) (down (count_of t) (pointer_of t)) (resident_of t + 1 - k))
-      (clear : u.words ≡ cleared t.words (count_of u) (pointer_of u))
+      (clear : (words_of u) ≡ cleared (words_of t) (count_of u) (pointer_of u))
       (put : Spilled t xs (s.windows st) k)
       (same : s.capacity st ≡ s.capacity x.store)
       (fits : k ≤ resident_of t) where
     abbrev R : List Frame
-    R = residents t.words (count_of t) (pointer_of t) (resident_of t)
+    R = residents (words_of t) (count_of t) (pointer_of t) (resident_of t)
 
-    kept : s.windows st ++ upper t.words (count_of t) (down (count_of t) (pointer_of t)) (resident_of t - k) ≡ xs ++ upper t.words (count_of t) (down (count_of t) (pointer_of t)) (resident_of t)
+    kept : s.windows st ++ upper (words_of t) (count_of t) (down (count_of t) (pointer_of t)) (resident_of t - k) ≡ xs ++ upper (words_of t) (count_of t) (down (count_of t) (pointer_of t)) (resident_of t)
     kept =
-        ap₂ ◌++◌ put (sym (drop_residents t.words (count_of t) (pointer_of t) (resident_of t) k t.residency.inside some few fits))
+        ap₂ ◌++◌ put (sym (drop_residents (words_of t) (count_of t) (pointer_of t) (resident_of t) k t.residency.inside some few fits))
         ∙ append_assoc xs (take k R) (drop k R)
-        ∙ ap (λ (l : List Frame). xs ++ l) (take-append-drop k R ∙ residents_upper t.words (count_of t) (pointer_of t) (resident_of t) t.residency.inside some few)
+        ∙ ap (λ (l : List Frame). xs ++ l) (take-append-drop k R ∙ residents_upper (words_of t) (count_of t) (pointer_of t) (resident_of t) t.residency.inside some few)
 
     holds_down : frames_of s (record { windows = u; store = st; policy = po; counts = cs }) ≡ saved (frames_of s x)
     holds_down =
@@ -84,9 +84,9 @@ module _ {S P : Type 0} (s : Store S) (r : Policy P) (x : WindowRing S P) where
         let limit = u.residency.within_the_limit in
         let n = stands.windows in
         let e = stands.resident in
-        let words : u.words ≡ cleared t.words (count_of t) (down (count_of t) (pointer_of t)) = clear ∙ (λ i. cleared t.words (stands.windows i) (stands.pointer i)) in
+        let words : (words_of u) ≡ cleared (words_of t) (count_of t) (down (count_of t) (pointer_of t)) = clear ∙ (λ i. cleared (words_of t) (stands.windows i) (stands.pointer i)) in
         (λ i. ring_frames (s.windows st) (same i) (words i) (stands.windows i) (stands.pointer i) (stands.resident i))
-        ∙ save_ring xs (s.windows st) (s.capacity x.store) t.words (count_of t) (pointer_of t) (resident_of t) k (down (count_of t) (pointer_of t)) (resident_of t + 1 - k) t.long (omega arith) t.residency.windows.few t.residency.inside some few fits refl (omega arith) refl kept
+        ∙ save_ring xs (s.windows st) (s.capacity x.store) (words_of t) (count_of t) (pointer_of t) (resident_of t) k (down (count_of t) (pointer_of t)) (resident_of t + 1 - k) t.table.long (omega arith) t.residency.windows.few t.residency.inside some few fits refl (omega arith) refl kept
 
     numbers_down : SameNumbers (moving s (record { windows = u; store = st; policy = po; counts = cs })).numbers (gone_down k cs m)
     numbers_down =
@@ -95,13 +95,13 @@ module _ {S P : Type 0} (s : Store S) (r : Policy P) (x : WindowRing S P) where
           pointer = stands.pointer;
           resident = stands.resident;
           mask = stands.mask;
-          held = ap length put ∙ length-append xs (take k R) ∙ ap (λ (n : ℕ). length xs + n) (length-take-le k R (let l = length_residents t.words (count_of t) (pointer_of t) (resident_of t) some in omega arith));
+          held = ap length put ∙ length-append xs (take k R) ∙ ap (λ (n : ℕ). length xs + n) (length-take-le k R (let l = length_residents (words_of t) (count_of t) (pointer_of t) (resident_of t) some in omega arith));
           room = same;
           counts = refl;
         }
 
   -- there is room in the windows
-  pub save_within : (u : Windows) → Stands u.residency (count_of t) (down (count_of t) (pointer_of t)) (resident_of t + 1 - 0) → u.words ≡ cleared t.words (count_of u) (pointer_of u) →
+  pub save_within : (u : Windows) → Stands u.residency (count_of t) (down (count_of t) (pointer_of t)) (resident_of t + 1 - 0) → (words_of u) ≡ cleared (words_of t) (count_of u) (pointer_of u) →
       resident_of t < most_resident (count_of t) → SavesAsDefined s r x (record { windows = u; store = x.store; policy = x.policy; counts = x.counts }) (Ok tt)
   save_within u stands clear less =
       let h = s.within x.store in
@@ -130,7 +130,7 @@ module _ {S P : Type 0} (s : Store S) (r : Policy P) (x : WindowRing S P) where
 
   -- windows go to the store
   pub save_with_overflow : (u : Windows) (st : S) (po : P) (cs : Counts) (k : ℕ) → Stands u.residency (count_of t) (down (count_of t) (pointer_of t)) (resident_of t + 1 - k) →
-      u.words ≡ cleared t.words (count_of u) (pointer_of u) → Spilled t xs (s.windows st) k → s.capacity st ≡ s.capacity x.store → k ≤ resident_of t →
+      (words_of u) ≡ cleared (words_of t) (count_of u) (pointer_of u) → Spilled t xs (s.windows st) k → s.capacity st ≡ s.capacity x.store → k ≤ resident_of t →
       most_resident (count_of t) ≤ resident_of t → m.held < m.room → k ≡ spill → po ≡ r.after_overflow x.policy → cs ≡ overflow_counted k x.counts →
       SavesAsDefined s r x (record { windows = u; store = st; policy = po; counts = cs }) (Ok tt)
   save_with_overflow u st po cs k stands clear put same fits full some_room is told counted =

@@ -1,12 +1,12 @@
 // How often a ring moved windows, and how many.
 ghost use Rattle.std.specs.Prelude.{◌≡◌, Some};
-ghost use Rattle.ring.specs.Movements.{no_counts};
+ghost use Rattle.ring.specs.Movements.{overflow_counted, underflow_counted};
 ghost use Rattle.ring.specs.Texts.{counts_text};
 
 use std::fmt;
 
 // Each stops at 2^64 − 1.
-#[derive(Clone, Copy)]
+#[derive(Clone, Copy, Default)]
 pub struct Counts {
     // How often the policy was told of an overflow, and of an underflow.
     pub overflows: u64,
@@ -17,15 +17,20 @@ pub struct Counts {
 }
 
 impl Counts {
-    pub(crate) fn zero() -> Counts
-        ensures { result ≡ no_counts }
+    // Counts an overflow of `k` windows.
+    pub(crate) fn overflow(&mut self, k: u32)
+        ensures { self.new ≡ overflow_counted k self.old }
     {
-        Counts {
-            overflows: 0,
-            underflows: 0,
-            spilled: 0,
-            filled: 0,
-        }
+        self.overflows = self.overflows.saturating_add(1);
+        self.spilled = self.spilled.saturating_add(u64::from(k));
+    }
+
+    // Counts an underflow of `k` windows.
+    pub(crate) fn underflow(&mut self, k: u32)
+        ensures { self.new ≡ underflow_counted k self.old }
+    {
+        self.underflows = self.underflows.saturating_add(1);
+        self.filled = self.filled.saturating_add(u64::from(k));
     }
 }
 

@@ -25,7 +25,7 @@ impl<S: SaveStore, P: SpillPolicy> WindowRing<S, P> {
             windows: Windows::new(windows),
             store,
             policy,
-            counts: Counts::zero(),
+            counts: Counts::default(),
         }
     }
 

@@ -1,7 +1,7 @@
-use Rattle.std.proofs.Common.{◌≡◌, length, refl, ap, ◌∙◌, arith}
+use Rattle.std.proofs.Common.{◌≡◌, length, ap, ◌∙◌, arith}
 use lib.Seq.{length-paste}
 use Rattle.std.proofs.lemmas.Slice.{put_mid-paste}
-use Rattle.ring.proofs.windows.Windows.set_eight.Goals as goal
+use Rattle.ring.proofs.word_table.WordTable.set_eight.Goals as goal
 
 pub invariant_of-self : goal.invariant_of-self
 invariant_of-self c =
@@ -13,7 +13,4 @@ invariant_of-self c =
 pub returns : goal.returns
 returns c =
     let eight : length c.args.from.now ≡ 8 = omega arith in
-    record {
-      changes_eight_words = put_mid-paste c.args.at _ c.args.self.now.words _ c.args.from.now 8 c.copy_from_slice.ensures.after (omega arith) (omega arith);
-      keeps_the_residency = refl;
-    }
+    put_mid-paste c.args.at _ c.args.self.now.words _ c.args.from.now 8 c.copy_from_slice.ensures.after (omega arith) (omega arith)

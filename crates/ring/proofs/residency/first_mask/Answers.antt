@@ -1,5 +1,5 @@
 use Rattle.std.proofs.Common.{rules}
-use Rattle.ring.proofs.residency.methods.first_mask.Goals as goal
+use Rattle.ring.proofs.residency.first_mask.Goals as goal
 use Rattle.ring.proofs.Turns.{mask_of_one, mask_wider}
 
 pub loop-w-init : goal.loop-w-init
