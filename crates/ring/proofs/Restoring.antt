@@ -16,10 +16,10 @@ use Rattle.ring.specs.Cycle.{up}
 use Rattle.ring.specs.Movements.{Movement, fill_size, gone_up, moving, restores, underflow_counted}
 use Rattle.ring.specs.Residencies.{Stands}
 use Rattle.ring.specs.Rings.{frames_of, ring_frames}
-use Rattle.ring.specs.RingShape.{depth_ring}
 use Rattle.ring.specs.Tables.{count_of, pointer_of, resident_of, words_of}
 use Rattle.ring.specs.Transfers.{Filled, Fills}
 use Rattle.ring.specs.Words.{upper, window_at}
+use Rattle.ring.proofs.Depths.{ring_depth, some_resident}
 use Rattle.ring.proofs.Movements.{SameNumbers, same_movement, same_moving, restore_fits, restore_refused, restore_underflows}
 use Rattle.ring.proofs.Views.{restore_ring}
 
@@ -51,12 +51,9 @@ module _ {S P : Type 0} (s : Store S) (r : Policy P) (x : WindowRing S P) where
   abbrev fill : ℕ
   fill = fill_size (r.fills x.policy) m
 
-  depth : depth_of (frames_of s x) ≡ length xs + resident_of t
-  depth = let some = t.residency.some_resident in depth_ring xs (s.capacity x.store) (words_of t) (count_of t) (pointer_of t) (resident_of t) (omega arith)
-
   module _ (more : 1 < m.held + m.resident) where
     not_last : is_last (frames_of s x) ≡ false
-    not_last = let d = depth in ne_eqb (depth_of (frames_of s x)) 1 (λ e. omega arith)
+    not_last = let d = ring_depth s x in ne_eqb (depth_of (frames_of s x)) 1 (λ e. omega arith)
 
     accepted : Ok tt ≡ restore_answer (frames_of s x)
     accepted = sym (cond-false (is_last (frames_of s x)) _ _ not_last)
@@ -101,8 +98,8 @@ module _ {S P : Type 0} (s : Store S) (r : Policy P) (x : WindowRing S P) where
   -- one frame is left
   pub restore_of_the_last : (d : ℕ) → resident_of t ≤ 1 → length xs ≤ 0 → d ≡ min 65536 (resident_of t + length xs) → RestoresAsDefined s r x x (Err (LastFrame d))
   restore_of_the_last d one none told =
-      let some = t.residency.some_resident in
-      let e = depth in
+      let some = some_resident t in
+      let e = ring_depth s x in
       let is : is_last (frames_of s x) ≡ true = eq-eqb (depth_of (frames_of s x)) 1 (omega arith) in
       let same : d ≡ min 65536 (depth_of (frames_of s x)) = omega arith in
       record {

@@ -15,10 +15,10 @@ use Rattle.ring.specs.Cycle.{down, most_resident}
 use Rattle.ring.specs.Movements.{Movement, gone_down, moving, overflow_counted, saves, spill_size}
 use Rattle.ring.specs.Residencies.{Stands}
 use Rattle.ring.specs.Rings.{frames_of, ring_frames}
-use Rattle.ring.specs.RingShape.{depth_ring}
 use Rattle.ring.specs.Tables.{count_of, pointer_of, resident_of, words_of}
 use Rattle.ring.specs.Transfers.{Spilled, Spills}
 use Rattle.ring.specs.Words.{cleared, residents, upper}
+use Rattle.ring.proofs.Depths.{few_resident, ring_depth, some_resident}
 use Rattle.ring.proofs.Movements.{SameNumbers, same_movement, same_moving, save_fits, save_refused, save_overflows}
 use Rattle.ring.proofs.Trips.{drop_residents, length_residents, residents_upper}
 use Rattle.ring.proofs.Views.{save_ring}
@@ -44,17 +44,14 @@ module _ {S P : Type 0} (s : Store S) (r : Policy P) (x : WindowRing S P) where
   spill = spill_size (r.spills x.policy) m
 
   some : 1 ≤ resident_of t
-  some = let h = t.residency.some_resident in omega arith
+  some = some_resident t
 
   few : resident_of t < count_of t
-  few = let h = t.residency.within_the_limit in let l = t.residency.windows.some_resident in omega arith
-
-  depth : depth_of (frames_of s x) ≡ length xs + resident_of t
-  depth = depth_ring xs (s.capacity x.store) (words_of t) (count_of t) (pointer_of t) (resident_of t) some
+  few = few_resident t
 
   module _ (room : m.held + m.resident < most_resident m.windows + m.room) where
     not_full : is_full (frames_of s x) ≡ false
-    not_full = let d = depth in lt-leb (most_resident (count_of t) + s.capacity x.store) (depth_of (frames_of s x)) (omega arith)
+    not_full = let d = ring_depth s x in lt-leb (most_resident (count_of t) + s.capacity x.store) (depth_of (frames_of s x)) (omega arith)
 
     accepted : Ok tt ≡ save_answer (frames_of s x)
     accepted = sym (cond-false (is_full (frames_of s x)) _ _ not_full)
@@ -118,7 +115,7 @@ module _ {S P : Type 0} (s : Store S) (r : Policy P) (x : WindowRing S P) where
       SavesAsDefined s r x x (Err (AtCapacity d))
   save_at_capacity d full none told =
       let h = s.within x.store in
-      let e = depth in
+      let e = ring_depth s x in
       let is : is_full (frames_of s x) ≡ true = le-leb (most_resident (count_of t) + s.capacity x.store) (depth_of (frames_of s x)) (omega arith) in
       let same : d ≡ min 65536 (depth_of (frames_of s x)) = omega arith in
       record {

@@ -89,7 +89,7 @@ impl Residency {
     }
 
     // The window `by` above the pointer's.
-    pub(crate) fn above(&self, by: u32) -> u32
+    fn above(&self, by: u32) -> u32
         requires { by < window_count self.now }
         ensures { result ≡ wrap (window_count self.now) (self.now.pointer + by) }
     {
@@ -117,6 +117,14 @@ impl Residency {
         ensures { result ≡ wrap (window_count self.now) (self.now.pointer + (resident_count self.now - (j + 1))) }
     {
         self.above(self.resident() - j - 1)
+    }
+
+    // The window that the `j`th taken from the store goes to, from 0.
+    pub(crate) fn target(&self, j: u32) -> u32
+        requires { j + 1 < window_count self.now }
+        ensures { result ≡ wrap (window_count self.now) (self.now.pointer + (j + 1)) }
+    {
+        self.above(j + 1)
     }
 
     // The window `j` above the one that follows the resident ones.

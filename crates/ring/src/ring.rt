@@ -7,6 +7,7 @@ use stores::store::SaveStore;
 pub mod making;
 pub mod methods;
 pub mod transfers;
+pub mod traps;
 
 // The newest frames are in the windows, older ones in the store.
 #[derive(Drop)]

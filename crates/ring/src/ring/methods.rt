@@ -10,6 +10,7 @@ ghost use Rattle.ring.specs.Transfers.{Spills, Fills};
 
 use super::WindowRing;
 use super::transfers::{fill, spill};
+use super::traps::{note_overflow, note_underflow};
 use frames::file::RegisterFile;
 use policies::policy::SpillPolicy;
 use refusal::faults::FileFault;
@@ -84,8 +85,7 @@ impl<S: SaveStore, P: SpillPolicy> RegisterFile for WindowRing<S, P> {
             return Err(FileFault::AtCapacity(self.frames()));
         }
         spill(&self.windows, &mut self.store, k);
-        self.policy.overflowed();
-        self.counts.overflow(k);
+        note_overflow(&mut self.policy, &mut self.counts, k);
         self.windows.enter(k);
         Ok(())
     }
@@ -111,8 +111,7 @@ impl<S: SaveStore, P: SpillPolicy> RegisterFile for WindowRing<S, P> {
             &mut self.store,
             k,
         );
-        self.policy.underflowed();
-        self.counts.underflow(k);
+        note_underflow(&mut self.policy, &mut self.counts, k);
         self.windows.leave(k);
         Ok(())
     }

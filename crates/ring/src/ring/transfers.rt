@@ -36,6 +36,6 @@ pub(super) fn fill<S: SaveStore>(residency: Residency, table: &mut WordTable, st
             ins: [0; 8],
         };
         store.take(&mut saved).unwrap();
-        table.set_window(residency.above(j + 1), &saved);
+        table.set_window(residency.target(j), &saved);
     }
 }

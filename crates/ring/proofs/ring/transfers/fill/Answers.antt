@@ -29,7 +29,7 @@ loop-j-preserved g c =
     let xs : List Frame = g.S.SaveStore.windows c.args.store.now in
     let ys : List Frame = g.S.SaveStore.windows c.loop-j.store in
     let sofar = c.loop-j.invariant in
-    let at = c.above.ensures in
+    let at = c.target.ensures in
     let is = c.take.ensures.gives_the_newest ∙ taken_is xs ys j _ (omega arith) sofar.filled.store_lost_the_newest in
     let wrote = c.set_window.ensures in
     record {
@@ -37,8 +37,8 @@ loop-j-preserved g c =
         store_lost_the_newest = take_fewer xs ys _ j (omega arith) sofar.filled.store_lost_the_newest c.take.ensures.holds_the_list_after;
         windows_have_them =
             ap (λ (vs : List ℕ). upper vs n p (j + 1)) wrote
-            ∙ fill_more xs ws n p j c.above.result c.take.new.to _ c.loop-j.table.long few y.inside (omega arith) (omega arith) at is sofar.filled.windows_have_them;
+            ∙ fill_more xs ws n p j c.target.result c.take.new.to _ c.loop-j.table.long few y.inside (omega arith) (omega arith) at is sofar.filled.windows_have_them;
       };
-      newest_kept = ap (λ (vs : List ℕ). window_at vs p) wrote ∙ newest_kept ws n p j c.above.result c.take.new.to c.loop-j.table.long few y.inside (omega arith) at ∙ sofar.newest_kept;
+      newest_kept = ap (λ (vs : List ℕ). window_at vs p) wrote ∙ newest_kept ws n p j c.target.result c.take.new.to c.loop-j.table.long few y.inside (omega arith) at ∙ sofar.newest_kept;
       same_capacity = c.take.ensures.keeps_the_capacity ∙ sofar.same_capacity;
     }

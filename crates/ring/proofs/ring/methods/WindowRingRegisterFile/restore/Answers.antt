@@ -42,5 +42,5 @@ returns g c =
       windows_have_them = ap (λ ws. upper ws (count_of x.windows) (pointer_of x.windows) k) words ∙ moved.windows_have_them;
     } in
     let own = ap (λ ws. window_at ws (pointer_of x.windows)) words ∙ c.fill.ensures.keeps_the_newest_frame in
-    let done = restore_with_underflow s g.P.SpillPolicy x c.leave-2.new.self _ _ _ k c.leave-2.ensures.pointer_goes_up filled own c.fill.ensures.keeps_the_capacity some fits one is c.underflowed.ensures.moves_by_its_rule c.underflow.ensures in
+    let done = restore_with_underflow s g.P.SpillPolicy x c.leave-2.new.self _ _ _ k c.leave-2.ensures.pointer_goes_up filled own c.fill.ensures.keeps_the_capacity some fits one is c.note_underflow.ensures.tells_the_policy_once c.note_underflow.ensures.counts_the_underflow in
     record { answers_as_the_frames_do = done.answers; holds_the_frames_after = done.holds; moves_as_a_restore = done.moves; takes_the_newest_windows = done.takes }

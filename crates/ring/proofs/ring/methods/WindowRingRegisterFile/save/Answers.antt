@@ -32,5 +32,5 @@ returns g c =
     let is : c.trap_size-k.result ≡ spill_size (g.P.SpillPolicy.spills x.policy) (moving g.S.SaveStore x).numbers = omega (arith, c.trap_size-k.ensures, c.spill_amount.ensures.answers_its_amount, c.spare.ensures.answers_as_the_list_does) in
     let some : length (g.S.SaveStore.windows x.store) < g.S.SaveStore.capacity x.store = omega (arith, c.if-k-eq0.false) in
     let fits : c.trap_size-k.result ≤ resident_of x.windows = omega arith in
-    let done = save_with_overflow g.S.SaveStore g.P.SpillPolicy x c.enter-2.new.self _ _ _ k c.enter-2.ensures.pointer_goes_down c.enter-2.ensures.new_frame_is_cleared c.spill.ensures.puts_the_oldest_first c.spill.ensures.keeps_the_capacity fits full some is c.overflowed.ensures.moves_by_its_rule c.overflow.ensures in
+    let done = save_with_overflow g.S.SaveStore g.P.SpillPolicy x c.enter-2.new.self _ _ _ k c.enter-2.ensures.pointer_goes_down c.enter-2.ensures.new_frame_is_cleared c.spill.ensures.puts_the_oldest_first c.spill.ensures.keeps_the_capacity fits full some is c.note_overflow.ensures.tells_the_policy_once c.note_overflow.ensures.counts_the_overflow in
     record { answers_as_the_frames_do = done.answers; holds_the_frames_after = done.holds; moves_as_a_save = done.moves; puts_the_oldest_windows = done.puts }
