@@ -1,11 +1,11 @@
 -- The three ways through a restore.
-use Rattle.std.proofs.Common.{◌≡◌, ℕ, ◌+◌, ◌-◌, ◌<◌, ◌≤◌, min, true, false, List, ◌++◌, length, Ok, Err, Result, sym, refl, ap, ◌∙◌, subst, ap₂, append-nil, arith}
+use Rattle.std.proofs.Common.{◌≡◌, ℕ, ◌+◌, ◌-◌, ◌<◌, ◌≤◌, true, false, List, ◌++◌, length, Ok, Err, Result, sym, refl, ap, ◌∙◌, subst, ap₂, append-nil, arith}
 use Rattle.std.proofs.lemmas.List.{drop_all, length-take-le, take_all, take-append-drop}
 use Rattle.std.proofs.lemmas.Bool.{cond-true, cond-false, eq-eqb, ne_eqb}
 use Rattle.refusal.specs.declared.faults.FileFault.{FileFault}
 use Rattle.refusal.specs.declared.faults.FileFault.TheVariants.{LastFrame}
 use Rattle.frames.specs.declared.frame.Frame.{Frame}
-use Rattle.frames.specs.Frames.{depth_of, is_last, restore_answer, restore_after, restored}
+use Rattle.frames.specs.Frames.{depth_of, is_last, restore_answer, restore_after, restored, told_depth}
 use Rattle.policies.specs.declared.policy.SpillPolicy.{Ghosts as Policy}
 use Rattle.stores.specs.declared.store.SaveStore.{Ghosts as Store}
 use Rattle.ring.specs.declared.counts.Counts.{Counts}
@@ -96,14 +96,13 @@ module _ {S P : Type 0} (s : Store S) (r : Policy P) (x : WindowRing S P) where
       }
 
   -- one frame is left
-  pub restore_of_the_last : (d : ℕ) → resident_of t ≤ 1 → length xs ≤ 0 → d ≡ min 65536 (resident_of t + length xs) → RestoresAsDefined s r x x (Err (LastFrame d))
+  pub restore_of_the_last : (d : ℕ) → resident_of t ≤ 1 → length xs ≤ 0 → d ≡ told_depth (frames_of s x) → RestoresAsDefined s r x x (Err (LastFrame d))
   restore_of_the_last d one none told =
       let some = some_resident t in
       let e = ring_depth s x in
       let is : is_last (frames_of s x) ≡ true = eq-eqb (depth_of (frames_of s x)) 1 (omega arith) in
-      let same : d ≡ min 65536 (depth_of (frames_of s x)) = omega arith in
       record {
-        answers = ap (λ (n : ℕ). Err (LastFrame n)) same ∙ sym (cond-true (is_last (frames_of s x)) _ _ is);
+        answers = ap (λ (n : ℕ). Err (LastFrame n)) told ∙ sym (cond-true (is_last (frames_of s x)) _ _ is);
         holds = sym (cond-true (is_last (frames_of s x)) _ _ is);
         moves = same_moving (moving s x) (restores r (moving s x)) (sym (restore_refused m _ _ _ one none)) (sym (restore_refused m _ _ _ one none));
         takes = subst (λ (k : ℕ). Filled t.residency (words_of t) xs xs k) (sym (restore_refused m 0 0 fill one none)) (none_filled t.residency (words_of t) xs);

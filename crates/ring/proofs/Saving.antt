@@ -1,11 +1,11 @@
 -- The three ways through a save.
-use Rattle.std.proofs.Common.{◌≡◌, ℕ, ◌+◌, ◌-◌, ◌<◌, ◌≤◌, min, true, false, List, ◌++◌, length, take, drop, Ok, Err, Result, sym, refl, ap, ◌∙◌, subst, ap₂, append_assoc, append-nil, arith}
+use Rattle.std.proofs.Common.{◌≡◌, ℕ, ◌+◌, ◌-◌, ◌<◌, ◌≤◌, true, false, List, ◌++◌, length, take, drop, Ok, Err, Result, sym, refl, ap, ◌∙◌, subst, ap₂, append_assoc, append-nil, arith}
 use Rattle.std.proofs.lemmas.List.{length-append, length-take-le, take-append-drop}
 use Rattle.std.proofs.lemmas.Bool.{cond-true, cond-false, le-leb, lt-leb}
 use Rattle.refusal.specs.declared.faults.FileFault.{FileFault}
 use Rattle.refusal.specs.declared.faults.FileFault.TheVariants.{AtCapacity}
 use Rattle.frames.specs.declared.frame.Frame.{Frame}
-use Rattle.frames.specs.Frames.{depth_of, is_full, save_answer, save_after, saved}
+use Rattle.frames.specs.Frames.{depth_of, is_full, save_answer, save_after, saved, told_depth}
 use Rattle.policies.specs.declared.policy.SpillPolicy.{Ghosts as Policy}
 use Rattle.stores.specs.declared.store.SaveStore.{Ghosts as Store}
 use Rattle.ring.specs.declared.counts.Counts.{Counts}
@@ -111,15 +111,14 @@ module _ {S P : Type 0} (s : Store S) (r : Policy P) (x : WindowRing S P) where
       }
 
   -- neither the windows nor the store have room
-  pub save_at_capacity : (d : ℕ) → most_resident (count_of t) ≤ resident_of t → m.room ≤ m.held → d ≡ min 65536 (resident_of t + length xs) →
+  pub save_at_capacity : (d : ℕ) → most_resident (count_of t) ≤ resident_of t → m.room ≤ m.held → d ≡ told_depth (frames_of s x) →
       SavesAsDefined s r x x (Err (AtCapacity d))
   save_at_capacity d full none told =
       let h = s.within x.store in
       let e = ring_depth s x in
       let is : is_full (frames_of s x) ≡ true = le-leb (most_resident (count_of t) + s.capacity x.store) (depth_of (frames_of s x)) (omega arith) in
-      let same : d ≡ min 65536 (depth_of (frames_of s x)) = omega arith in
       record {
-        answers = ap (λ (n : ℕ). Err (AtCapacity n)) same ∙ sym (cond-true (is_full (frames_of s x)) _ _ is);
+        answers = ap (λ (n : ℕ). Err (AtCapacity n)) told ∙ sym (cond-true (is_full (frames_of s x)) _ _ is);
         holds = sym (cond-true (is_full (frames_of s x)) _ _ is);
         moves = same_moving (moving s x) (saves r (moving s x)) (sym (save_refused m _ _ _ full none)) (sym (save_refused m _ _ _ full none));
         puts = subst (λ (k : ℕ). Spilled t xs xs k) (sym (save_refused m 0 0 spill full none)) (sym (append-nil xs));

@@ -17,22 +17,6 @@ use refusal::faults::FileFault;
 use stores::store::SaveStore;
 
 impl<S: SaveStore, P: SpillPolicy> WindowRing<S, P> {
-    // How many frames there are, as it is told.
-    fn frames(&self) -> u32
-        ensures { result ≡ min 65536 ((moving S.SaveStore self.now).numbers.resident + (moving S.SaveStore self.now).numbers.held) }
-    {
-        (self.windows.residency.resident() + self.store.held()).min(65536)
-    }
-
-    // How many frames more there may be, as it is told.
-    fn room(&self) -> u32
-        ensures { result ≡ min 65535 (room_for_frames (moving S.SaveStore self.now).numbers) }
-    {
-        let residency = self.windows.residency;
-        let free = residency.most_resident() - residency.resident();
-        (free + self.store.spare()).min(65535)
-    }
-
     // How many windows a trap moves: the policy's amount, as far as the windows and the store's `limit` allow.
     fn trap_size(&self, amount: u32, limit: u32) -> u32
         ensures { result ≡ min (min amount (most_resident (count_of self.now.windows))) limit }
@@ -82,7 +66,7 @@ impl<S: SaveStore, P: SpillPolicy> RegisterFile for WindowRing<S, P> {
         let k = self.trap_size(self.policy.spill_amount(), self.store.spare());
         // No amount is 0, so it is the store that has no spare.
         if k == 0 {
-            return Err(FileFault::AtCapacity(self.frames()));
+            return Err(FileFault::AtCapacity(self.depth()));
         }
         spill(&self.windows, &mut self.store, k);
         note_overflow(&mut self.policy, &mut self.counts, k);
@@ -103,7 +87,7 @@ impl<S: SaveStore, P: SpillPolicy> RegisterFile for WindowRing<S, P> {
         let k = self.trap_size(self.policy.fill_amount(), self.store.held());
         // No amount is 0, so it is the store that is empty.
         if k == 0 {
-            return Err(FileFault::LastFrame(self.frames()));
+            return Err(FileFault::LastFrame(self.depth()));
         }
         fill(
             self.windows.residency,
@@ -116,11 +100,15 @@ impl<S: SaveStore, P: SpillPolicy> RegisterFile for WindowRing<S, P> {
         Ok(())
     }
 
+    #[tactic(auto, using(crate::proofs::Depths::ring_depth))]
     fn depth(&self) -> u32 {
-        self.frames()
+        (self.windows.residency.resident() + self.store.held()).min(65536)
     }
 
+    #[tactic(auto, using(crate::proofs::Depths::ring_depth))]
     fn spare(&self) -> u32 {
-        self.room()
+        let residency = self.windows.residency;
+        let free = residency.most_resident() - residency.resident();
+        (free + self.store.spare()).min(65535)
     }
 }

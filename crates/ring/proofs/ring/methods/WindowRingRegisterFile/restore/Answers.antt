@@ -21,7 +21,7 @@ returns-then-k-eq0 g c =
     let low = x.windows.residency.windows.some_resident in
     let one : resident_of x.windows ≤ 1 = omega arith in
     let none : length (g.S.SaveStore.windows x.store) ≤ 0 = omega (arith, c.trap_size-k.ensures, c.fill_amount.ensures.answers_its_amount, c.held.ensures.answers_as_the_list_does, c.if-k-eq0.true) in
-    let done = restore_of_the_last g.S.SaveStore g.P.SpillPolicy x c.frames.result one none c.frames.ensures in
+    let done = restore_of_the_last g.S.SaveStore g.P.SpillPolicy x c.depth.result one none c.depth.ensures.answers_as_the_frames_do in
     record { answers_as_the_frames_do = done.answers; holds_the_frames_after = done.holds; moves_as_a_restore = done.moves; takes_the_newest_windows = done.takes }
 
 pub returns : goal.returns

@@ -20,7 +20,7 @@ returns-then-k-eq0 g c =
     let low = x.windows.residency.windows.some_resident in
     let full : most_resident (count_of x.windows) ≤ resident_of x.windows = omega arith in
     let none : g.S.SaveStore.capacity x.store ≤ length (g.S.SaveStore.windows x.store) = omega (arith, c.trap_size-k.ensures, c.spill_amount.ensures.answers_its_amount, c.spare.ensures.answers_as_the_list_does, c.if-k-eq0.true) in
-    let done = save_at_capacity g.S.SaveStore g.P.SpillPolicy x c.frames.result full none c.frames.ensures in
+    let done = save_at_capacity g.S.SaveStore g.P.SpillPolicy x c.depth.result full none c.depth.ensures.answers_as_the_frames_do in
     record { answers_as_the_frames_do = done.answers; holds_the_frames_after = done.holds; moves_as_a_save = done.moves; puts_the_oldest_windows = done.puts }
 
 pub returns : goal.returns
