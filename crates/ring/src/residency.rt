@@ -42,6 +42,7 @@ fn without_bit(mask: u32, w: u32) -> u32
 }
 
 // The mask with window 0 alone resident.
+#[tactic(auto, using(crate::proofs::Turns::mask_of_one, crate::proofs::Turns::mask_wider))]
 fn first_mask(windows: WindowCount) -> u32
     ensures { result ≡ mask_of windows.count 0 1 }
 {
@@ -58,6 +59,7 @@ impl Residency {
     ghost use Rattle.ring.specs.Residencies.{Advanced, Retreated, Stands, resident_count, window_count};
 
     // Window 0 is the pointer's and the only one resident.
+    #[tactic(auto, using(crate::proofs::Turns::ghost_fields, crate::proofs::Turns::resident_of_mask))]
     pub(crate) fn new(windows: WindowCount) -> Residency
         ensures { Stands result windows.count 0 1 }
     {
@@ -136,6 +138,7 @@ impl Residency {
     }
 
     // The mask once the `k` oldest resident windows are given up and the window below is resident.
+    #[tactic(auto, using(crate::proofs::Turns::mask_spilled, crate::proofs::Turns::mask_down))]
     fn advanced_mask(&self, k: u32) -> u32
         requires { k ≤ resident_count self.now }
         ensures { result ≡ mask_of (window_count self.now) (down (window_count self.now) self.now.pointer) (resident_count self.now + 1 - k) }
@@ -148,6 +151,7 @@ impl Residency {
     }
 
     // The mask once the `k` windows above the resident ones are resident and the pointer's is not.
+    #[tactic(auto, using(crate::proofs::Turns::mask_filled, crate::proofs::Turns::mask_up))]
     fn retreated_mask(&self, k: u32) -> u32
         requires { resident_count self.now + k ≤ window_count self.now }
         ensures { result ≡ mask_of (window_count self.now) (up (window_count self.now) self.now.pointer) (resident_count self.now + k - 1) }
@@ -161,6 +165,7 @@ impl Residency {
 
     // The `k` oldest resident windows are given up, and then the pointer goes down by one. It is one step, since
     // `k` may be all of them.
+    #[tactic(auto, using(crate::proofs::Turns::ghost_fields, crate::proofs::Turns::resident_of_mask))]
     pub(crate) fn advance(&mut self, k: u32)
         requires { (k ≤ resident_count self.old) × (resident_count self.old + 1 ≤ most_resident (window_count self.old) + k) }
         ensures { Advanced self.old self.new k }
@@ -171,6 +176,7 @@ impl Residency {
     }
 
     // The `k` windows above the resident ones become resident, and then the pointer goes up by one.
+    #[tactic(auto, using(crate::proofs::Turns::ghost_fields, crate::proofs::Turns::resident_of_mask))]
     pub(crate) fn retreat(&mut self, k: u32)
         requires { (resident_count self.old + k ≤ most_resident (window_count self.old) + 1) × (2 ≤ resident_count self.old + k) }
         ensures { Retreated self.old self.new k }
