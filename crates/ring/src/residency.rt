@@ -170,9 +170,11 @@ impl Residency {
         requires { (k ≤ resident_count self.old) × (resident_count self.old + 1 ≤ most_resident (window_count self.old) + k) }
         ensures { Advanced self.old self.new k }
     {
-        let mask = self.advanced_mask(k);
-        self.pointer = self.below();
-        self.mask = mask;
+        *self = Residency {
+            windows: self.windows,
+            pointer: self.below(),
+            mask: self.advanced_mask(k),
+        };
     }
 
     // The `k` windows above the resident ones become resident, and then the pointer goes up by one.
@@ -181,8 +183,10 @@ impl Residency {
         requires { (resident_count self.old + k ≤ most_resident (window_count self.old) + 1) × (2 ≤ resident_count self.old + k) }
         ensures { Retreated self.old self.new k }
     {
-        let mask = self.retreated_mask(k);
-        self.pointer = self.next_above();
-        self.mask = mask;
+        *self = Residency {
+            windows: self.windows,
+            pointer: self.next_above(),
+            mask: self.retreated_mask(k),
+        };
     }
 }

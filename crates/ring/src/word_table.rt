@@ -36,22 +36,6 @@ impl WordTable {
         self.words[at] = word;
     }
 
-    // The eight words from `at` on.
-    fn eight(&self, at: usize) -> [u32; 8]
-        requires { at + 8 ≤ 512 }
-        ensures { result ≡ eight self.now.words at }
-    {
-        self.words[at..at + 8].try_into().unwrap()
-    }
-
-    // Eight words from `at` on become those of `from`.
-    fn set_eight(&mut self, at: usize, from: &[u32; 8])
-        requires { at + 8 ≤ 512 }
-        ensures { self.new.words ≡ paste self.old.words at from.now 8 }
-    {
-        self.words[at..at + 8].copy_from_slice(from);
-    }
-
     // Window `w`, as it is saved.
     pub(crate) fn window(&self, w: u32) -> SavedWindow
         requires { w < 32 }
@@ -60,8 +44,8 @@ impl WordTable {
     {
         let at = (w * 16) as usize;
         SavedWindow {
-            locals: self.eight(at),
-            ins: self.eight(at + 8),
+            locals: self.words[at..at + 8].try_into().unwrap(),
+            ins: self.words[at + 8..at + 16].try_into().unwrap(),
         }
     }
 
@@ -71,16 +55,19 @@ impl WordTable {
         ensures { self.new.words ≡ with_window self.old.words w saved.now }
     {
         let at = (w * 16) as usize;
-        self.set_eight(at, &saved.locals);
-        self.set_eight(at + 8, &saved.ins);
+        self.words[at..at + 8].copy_from_slice(&saved.locals);
+        self.words[at + 8..at + 16].copy_from_slice(&saved.ins);
     }
 
     // Sets window `w`'s locals and window `below`'s ins to 0.
+    #[tactic(auto, using(std::proofs::lemmas::Slice::overwrites))]
     pub(crate) fn clear(&mut self, w: u32, below: u32)
         requires { (w < 32) × (below < 32) }
         ensures { self.new.words ≡ zeroed self.old.words w below }
     {
-        self.set_eight((w * 16) as usize, &[0; 8]);
-        self.set_eight((below * 16 + 8) as usize, &[0; 8]);
+        let locals = (w * 16) as usize;
+        let ins = (below * 16 + 8) as usize;
+        self.words[locals..locals + 8].fill(0);
+        self.words[ins..ins + 8].fill(0);
     }
 }

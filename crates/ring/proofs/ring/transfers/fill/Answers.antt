@@ -1,22 +1,9 @@
-use Rattle.std.proofs.Common.{ℕ, ◌+◌, ◌-◌, List, length, sym, refl, ap, ◌∙◌, arith}
-use Rattle.std.proofs.lemmas.List.{drop_all, take_all}
+use Rattle.std.proofs.Common.{ℕ, ◌+◌, List, ap, ◌∙◌, arith}
 use Rattle.frames.specs.declared.frame.Frame.{Frame}
 use Rattle.ring.specs.Residencies.{window_count}
 use Rattle.ring.specs.Words.{upper, window_at}
 use Rattle.ring.proofs.Trips.{fill_more, newest_kept, take_fewer, taken_is}
 use Rattle.ring.proofs.ring.transfers.fill.Goals as goal
-
-pub loop-j-init : goal.loop-j-init
-loop-j-init g c =
-    let xs : List Frame = g.S.SaveStore.windows c.args.store.now in
-    record {
-      filled = record {
-        store_lost_the_newest = sym (take_all (length xs - 0) xs (omega arith));
-        windows_have_them = sym (drop_all (length xs - 0) xs (omega arith));
-      };
-      newest_kept = refl;
-      same_capacity = refl;
-    }
 
 pub loop-j-preserved : goal.loop-j-preserved
 loop-j-preserved g c =

@@ -1,4 +1,4 @@
-use Rattle.std.proofs.Common.{◌≡◌, ℕ, ◌+◌, ◌<◌, List, [], ◌∷◌, ◌++◌, length, take, sym, refl, ap, ◌∙◌, append-nil, arith}
+use Rattle.std.proofs.Common.{◌≡◌, ℕ, ◌+◌, ◌<◌, List, [], ◌∷◌, ◌++◌, length, take, sym, ap, ◌∙◌, arith}
 use Rattle.std.proofs.lemmas.List.{length-append, length-take-le}
 use Rattle.std.proofs.lemmas.Bool.{cond_below}
 use Rattle.frames.specs.declared.frame.Frame.{Frame}
@@ -8,9 +8,6 @@ use Rattle.ring.specs.Tables.{count_of, pointer_of, resident_of, words_of}
 use Rattle.ring.specs.Words.{residents, window_at}
 use Rattle.ring.proofs.Trips.{length_residents, put_more, resident_at}
 use Rattle.ring.proofs.ring.transfers.spill.Goals as goal
-
-pub loop-j-init : goal.loop-j-init
-loop-j-init g c = (sym (append-nil _), refl)
 
 pub loop-j-preserved : goal.loop-j-preserved
 loop-j-preserved g c =
