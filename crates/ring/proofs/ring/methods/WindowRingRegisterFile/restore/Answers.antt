@@ -1,4 +1,4 @@
-use Rattle.std.proofs.Common.{◌≡◌, ℕ, ◌<◌, ◌≤◌, length, ap, ◌∙◌, arith}
+use Rattle.std.proofs.Common.{rules, ◌≡◌, ℕ, ◌<◌, ◌≤◌, length, ap, ◌∙◌, arith}
 use Rattle.ring.specs.Movements.{fill_size, moving}
 use Rattle.ring.specs.Tables.{count_of, pointer_of, resident_of}
 use Rattle.ring.specs.Transfers.{Filled}
@@ -11,7 +11,7 @@ returns-then-resident-gt1 g c =
     let x = c.args.self.now in
     let more : 1 < resident_of x.windows = omega arith in
     let done = restore_within g.S.SaveStore g.P.SpillPolicy x c.leave.new.self c.leave.ensures.pointer_goes_up c.leave.ensures.keeps_the_words more in
-    record { answers_as_the_frames_do = done.answers; holds_the_frames_after = done.holds; moves_as_a_restore = done.moves; takes_the_newest_windows = done.takes }
+    search rules
 
 pub returns-then-k-eq0 : goal.returns-then-k-eq0
 returns-then-k-eq0 g c =
@@ -22,7 +22,7 @@ returns-then-k-eq0 g c =
     let one : resident_of x.windows ≤ 1 = omega arith in
     let none : length (g.S.SaveStore.windows x.store) ≤ 0 = omega (arith, c.trap_size-k.ensures, c.fill_amount.ensures.answers_its_amount, c.held.ensures.answers_as_the_list_does, c.if-k-eq0.true) in
     let done = restore_of_the_last g.S.SaveStore g.P.SpillPolicy x c.depth.result one none c.depth.ensures.answers_as_the_frames_do in
-    record { answers_as_the_frames_do = done.answers; holds_the_frames_after = done.holds; moves_as_a_restore = done.moves; takes_the_newest_windows = done.takes }
+    search rules
 
 pub returns : goal.returns
 returns g c =
@@ -43,4 +43,4 @@ returns g c =
     } in
     let own = ap (λ ws. window_at ws (pointer_of x.windows)) words ∙ c.fill.ensures.keeps_the_newest_frame in
     let done = restore_with_underflow s g.P.SpillPolicy x c.leave-2.new.self _ _ _ k c.leave-2.ensures.pointer_goes_up filled own c.fill.ensures.keeps_the_capacity some fits one is c.note_underflow.ensures.tells_the_policy_once c.note_underflow.ensures.counts_the_underflow in
-    record { answers_as_the_frames_do = done.answers; holds_the_frames_after = done.holds; moves_as_a_restore = done.moves; takes_the_newest_windows = done.takes }
+    search rules

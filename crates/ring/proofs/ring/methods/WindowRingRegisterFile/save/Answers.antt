@@ -1,4 +1,4 @@
-use Rattle.std.proofs.Common.{◌≡◌, ℕ, ◌<◌, ◌≤◌, length, arith}
+use Rattle.std.proofs.Common.{rules, ◌≡◌, ℕ, ◌<◌, ◌≤◌, length, arith}
 use Rattle.ring.specs.Cycle.{most_resident}
 use Rattle.ring.specs.Movements.{moving, spill_size}
 use Rattle.ring.specs.Tables.{count_of, resident_of}
@@ -10,7 +10,7 @@ returns-then-resident-most_resident g c =
     let x = c.args.self.now in
     let less : resident_of x.windows < most_resident (count_of x.windows) = omega arith in
     let done = save_within g.S.SaveStore g.P.SpillPolicy x c.enter.new.self c.enter.ensures.pointer_goes_down c.enter.ensures.new_frame_is_cleared less in
-    record { answers_as_the_frames_do = done.answers; holds_the_frames_after = done.holds; moves_as_a_save = done.moves; puts_the_oldest_windows = done.puts }
+    search rules
 
 pub returns-then-k-eq0 : goal.returns-then-k-eq0
 returns-then-k-eq0 g c =
@@ -21,7 +21,7 @@ returns-then-k-eq0 g c =
     let full : most_resident (count_of x.windows) ≤ resident_of x.windows = omega arith in
     let none : g.S.SaveStore.capacity x.store ≤ length (g.S.SaveStore.windows x.store) = omega (arith, c.trap_size-k.ensures, c.spill_amount.ensures.answers_its_amount, c.spare.ensures.answers_as_the_list_does, c.if-k-eq0.true) in
     let done = save_at_capacity g.S.SaveStore g.P.SpillPolicy x c.depth.result full none c.depth.ensures.answers_as_the_frames_do in
-    record { answers_as_the_frames_do = done.answers; holds_the_frames_after = done.holds; moves_as_a_save = done.moves; puts_the_oldest_windows = done.puts }
+    search rules
 
 pub returns : goal.returns
 returns g c =
@@ -33,4 +33,4 @@ returns g c =
     let some : length (g.S.SaveStore.windows x.store) < g.S.SaveStore.capacity x.store = omega (arith, c.if-k-eq0.false) in
     let fits : c.trap_size-k.result ≤ resident_of x.windows = omega arith in
     let done = save_with_overflow g.S.SaveStore g.P.SpillPolicy x c.enter-2.new.self _ _ _ k c.enter-2.ensures.pointer_goes_down c.enter-2.ensures.new_frame_is_cleared c.spill.ensures.puts_the_oldest_first c.spill.ensures.keeps_the_capacity fits full some is c.note_overflow.ensures.tells_the_policy_once c.note_overflow.ensures.counts_the_overflow in
-    record { answers_as_the_frames_do = done.answers; holds_the_frames_after = done.holds; moves_as_a_save = done.moves; puts_the_oldest_windows = done.puts }
+    search rules
