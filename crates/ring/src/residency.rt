@@ -106,13 +106,6 @@ impl Residency {
         wrapped(n, self.pointer + n - 1)
     }
 
-    // The window above the pointer's.
-    fn next_above(&self) -> u32
-        ensures { result ≡ up (window_count self.now) self.now.pointer }
-    {
-        self.above(1)
-    }
-
     // The resident window that `j` others are older than.
     pub(crate) fn oldest(&self, j: u32) -> u32
         requires { j < resident_count self.now }
@@ -127,14 +120,6 @@ impl Residency {
         ensures { result ≡ wrap (window_count self.now) (self.now.pointer + (j + 1)) }
     {
         self.above(j + 1)
-    }
-
-    // The window `j` above the one that follows the resident ones.
-    fn beyond(&self, j: u32) -> u32
-        requires { resident_count self.now + j < window_count self.now }
-        ensures { result ≡ wrap (window_count self.now) (self.now.pointer + (resident_count self.now + j)) }
-    {
-        self.above(self.resident() + j)
     }
 
     // The mask once the `k` oldest resident windows are given up and the window below is resident.
@@ -158,7 +143,7 @@ impl Residency {
     {
         let mut mask = self.mask;
         for j in 0..k {
-            mask = without_bit(mask, self.beyond(j));
+            mask = without_bit(mask, self.above(self.resident() + j));
         }
         with_bit(mask, self.pointer)
     }
@@ -185,7 +170,7 @@ impl Residency {
     {
         *self = Residency {
             windows: self.windows,
-            pointer: self.next_above(),
+            pointer: self.above(1),
             mask: self.retreated_mask(k),
         };
     }

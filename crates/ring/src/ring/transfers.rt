@@ -11,7 +11,7 @@ use crate::word_table::WordTable;
 use stores::store::SaveStore;
 use stores::window::SavedWindow;
 
-// Puts the `k` oldest resident windows into the store, oldest first.
+// Puts the `k` oldest resident windows into the store, oldest first. It has room for them, so no put is refused.
 pub(super) fn spill<S: SaveStore>(windows: &Windows, store: &mut S, k: u32)
     requires { (k ≤ resident_of windows.now) × (k + length (S.SaveStore.windows store.old) ≤ S.capacity store.old) }
     ensures puts_the_oldest_first { Spilled windows.now (S.SaveStore.windows store.old) (S.SaveStore.windows store.new) k }
@@ -23,7 +23,8 @@ pub(super) fn spill<S: SaveStore>(windows: &Windows, store: &mut S, k: u32)
     }
 }
 
-// Moves the `k` newest saved windows to those above the pointer's, in the order taken.
+// Moves the `k` newest saved windows to those above the pointer's, in the order taken. The store
+// holds as many, so no take is refused.
 pub(super) fn fill<S: SaveStore>(residency: Residency, table: &mut WordTable, store: &mut S, k: u32)
     requires { (k < window_count residency) × (k ≤ length (S.SaveStore.windows store.old)) }
     ensures takes_the_newest_first { Filled residency table.new.words (S.SaveStore.windows store.old) (S.SaveStore.windows store.new) k }
