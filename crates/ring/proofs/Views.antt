@@ -25,20 +25,10 @@ use Rattle.ring.proofs.Uppers.{upper_end, upper_same}
 word_ring : (xs : List Frame) (room : ℕ) (ws : List ℕ) (n p r k : ℕ) → 8 ≤ k → k < 32 → word (ring_frames xs room ws n p r) k ≡ get_or ws (place_of n p k) 0
 word_ring xs room ws n p r k low high =
     let s : Frames = ring_frames xs room ws n p r in
-    ⊎_elim
-    (λ (l : k < 16).
-    word_out s k l
-    ∙ eight_get ws (ins_at (down n p)) (k - 8) (omega arith)
-    ∙ ap (λ (x : ℕ). get_or ws x 0) (sym (cond-true (ltb k 16) _ _ (lt-ltb k 16 l))))
-    (λ (l : 16 ≤ k).
-    ⊎_elim
-    (λ (m : k < 24). word_local s k l m ∙ eight_get ws (locals_at p) (k - 16) (omega arith))
-    (λ (m : 24 ≤ k).
-    let e : ins_at p + (k - 24) ≡ locals_at p + (k - 16) = omega arith in
-    word_in s k m ∙ eight_get ws (ins_at p) (k - 24) (omega arith) ∙ ap (λ (x : ℕ). get_or ws x 0) e)
-    (cases_lt k 24)
-    ∙ ap (λ (x : ℕ). get_or ws x 0) (sym (cond-false (ltb k 16) _ _ (le-ltb k 16 l))))
-    (cases_lt k 16)
+    let out = λ (l : k < 16). word_out s k l ∙ eight_get ws (ins_at (down n p)) (k - 8) (omega arith) in
+    let local = λ (l : 16 ≤ k) (m : k < 24). word_local s k l m ∙ eight_get ws (locals_at p) (k - 16) (omega arith) in
+    let in_word = λ (m : 24 ≤ k). word_in s k m ∙ eight_get ws (ins_at p) (k - 24) (omega arith) in
+    grind (arith, nat_tests)
 
 pub read_ring : (xs : List Frame) (room : ℕ) (t : Windows) (k q v : ℕ) → 8 ≤ k → k < 32 → q ≡ place_of (count_of t) (pointer_of t) k → v ≡ get_or (words_of t) q 0 →
     Ok v ≡ read_answer (ring_frames xs room (words_of t) (count_of t) (pointer_of t) (resident_of t)) k
