@@ -1,5 +1,5 @@
 -- Wrapping round once is the remainder.
-use Rattle.std.proofs.Common.{◌-◌, ◌<◌, mod-eq_of_lt, arith}
+use Rattle.std.proofs.Common.{mod-eq_of_lt, arith}
 use native.Mathlib.Nat.{mod-eq-sub-mod}
 use Rattle.std.proofs.lemmas.Bool.Decides.{nat_tests}
 use Rattle.ring.specs.Cycle.{WrapIsModulo}

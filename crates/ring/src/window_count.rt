@@ -31,7 +31,7 @@ impl TryFrom<u32> for WindowCount {
 impl From<WindowCount> for u32 {
     ghost use Rattle.std.specs.Prelude.{◌≡◌};
 
-    ghost from_gives = { λ windows n. n ≡ windows.count };
+    ghost from_gives = { λ c n. n ≡ c.count };
 
     fn from(windows: WindowCount) -> u32 {
         windows.count
