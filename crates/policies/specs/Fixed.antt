@@ -11,13 +11,13 @@ fixed_fault spill fill = cond (is_amount spill) (cond (is_amount fill) None (Som
 
 -- a policy of these amounts
 abbrev pub IsFixed : ℕ → ℕ → Fixed → Type 0
-IsFixed spill fill p = (p.spill ≡ spill) × (p.fill ≡ fill)
+IsFixed spill fill p = (p.spill.windows ≡ spill) × (p.fill.windows ≡ fill)
 
 -- the policy of two amounts, or the refusal of the first that is none
 abbrev pub MakesFixed : ℕ → ℕ → Result Fixed SetupFault → Type 0
 MakesFixed spill fill (Ok p) = (fixed_fault spill fill ≡ None) × IsFixed spill fill p
 MakesFixed spill fill (Err e) = fixed_fault spill fill ≡ Some e
 
--- its law, from its type
-pub fixed_range : (p : Fixed) → AmountsInRange p.spill p.fill
-fixed_range p = record { some_spill = p.some_spill; few_spill = p.few_spill; some_fill = p.some_fill; few_fill = p.few_fill }
+-- its law, from the types of its amounts
+pub fixed_range : (p : Fixed) → AmountsInRange p.spill.windows p.fill.windows
+fixed_range p = record { some_spill = p.spill.some; few_spill = p.spill.few; some_fill = p.fill.some; few_fill = p.fill.few }

@@ -2,5 +2,6 @@
 #![tactic(auto)]
 
 pub mod adaptive;
+pub mod amount;
 pub mod fixed;
 pub mod policy;

@@ -1,3 +1,5 @@
+pub mod Depths
+pub mod Fresh
 pub mod Groups
 pub mod Masks
 pub mod Modulo

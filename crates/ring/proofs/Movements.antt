@@ -1,6 +1,6 @@
 -- Equal numbers make equal movements, and which way a save and a restore go.
-use Rattle.std.proofs.Common.{◌≡◌, ◌<◌, ◌≤◌, cond, ltb, ◌∙◌}
-use Rattle.std.proofs.lemmas.Bool.{cond-true, cond-false, lt-ltb, le-ltb}
+use Rattle.std.proofs.Common.{◌≡◌, ◌<◌, ◌≤◌, arith}
+use Rattle.std.proofs.lemmas.Bool.Decides.{nat_tests}
 use Rattle.ring.specs.Cycle.{most_resident}
 use Rattle.ring.specs.Movements.{Movement, Moving, on_save, on_restore}
 
@@ -22,22 +22,19 @@ same_moving x y e f = λ i. record { numbers = e i; policy = f i }
 
 module _ {X : Type 0} (m : Movement) (fits refused moves : X) where
   pub save_fits : m.resident < most_resident m.windows → on_save m fits refused moves ≡ fits
-  save_fits h = cond-true (ltb m.resident (most_resident m.windows)) _ _ (lt-ltb m.resident (most_resident m.windows) h)
-
-  save_is_full : most_resident m.windows ≤ m.resident → on_save m fits refused moves ≡ cond (ltb m.held m.room) moves refused
-  save_is_full h = cond-false (ltb m.resident (most_resident m.windows)) _ _ (le-ltb m.resident (most_resident m.windows) h)
+  save_fits h = grind (arith, nat_tests)
 
   pub save_refused : most_resident m.windows ≤ m.resident → m.room ≤ m.held → on_save m fits refused moves ≡ refused
-  save_refused h full = save_is_full h ∙ cond-false (ltb m.held m.room) _ _ (le-ltb m.held m.room full)
+  save_refused h full = grind (arith, nat_tests)
 
   pub save_overflows : most_resident m.windows ≤ m.resident → m.held < m.room → on_save m fits refused moves ≡ moves
-  save_overflows h some = save_is_full h ∙ cond-true (ltb m.held m.room) _ _ (lt-ltb m.held m.room some)
+  save_overflows h some = grind (arith, nat_tests)
 
   pub restore_fits : 1 < m.resident → on_restore m fits refused moves ≡ fits
-  restore_fits h = cond-true (ltb 1 m.resident) _ _ (lt-ltb 1 m.resident h)
+  restore_fits h = grind (arith, nat_tests)
 
   pub restore_refused : m.resident ≤ 1 → m.held ≤ 0 → on_restore m fits refused moves ≡ refused
-  restore_refused h none = cond-false (ltb 1 m.resident) _ _ (le-ltb 1 m.resident h) ∙ cond-false (ltb 0 m.held) _ _ (le-ltb 0 m.held none)
+  restore_refused h none = grind (arith, nat_tests)
 
   pub restore_underflows : m.resident ≤ 1 → 0 < m.held → on_restore m fits refused moves ≡ moves
-  restore_underflows h some = cond-false (ltb 1 m.resident) _ _ (le-ltb 1 m.resident h) ∙ cond-true (ltb 0 m.held) _ _ (lt-ltb 0 m.held some)
+  restore_underflows h some = grind (arith, nat_tests)

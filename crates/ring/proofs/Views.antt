@@ -6,14 +6,17 @@ use Rattle.std.proofs.lemmas.Bool.{cond-true, cond-false, lt-ltb, le-ltb, cases_
 use Rattle.std.proofs.lemmas.Bool.Decides.{nat_tests}
 use Rattle.refusal.specs.declared.faults.FileFault.TheVariants.{NoSuchRegister}
 use Rattle.frames.specs.declared.frame.Frame.{Frame}
-use Rattle.frames.specs.Frames.{Frames, no_frame, is_windowed, read_answer, restored, saved, with_word, word, zeros}
+use Rattle.frames.specs.Frames.{Frames, no_frame, is_windowed, read_answer, restored, saved, with_word, word, write_after, zeros}
 use Rattle.frames.specs.Flat.{eight}
 use Rattle.frames.proofs.Flats.{eight_get, eight_set_below}
 use Rattle.frames.proofs.Registers.{windowed, word_out, word_local, word_in}
 use Rattle.frames.proofs.Same.{same_frames}
+use Rattle.ring.specs.declared.windows.Windows.{Windows}
 use Rattle.ring.specs.Cycle.{down, most_resident, up, wrap}
 use Rattle.ring.specs.Rings.{made_over, ring_frames}
+use Rattle.ring.specs.Tables.{count_of, pointer_of, resident_of, words_of}
 use Rattle.ring.specs.Words.{cleared, ins_at, locals_at, place_of, upper, window_at}
+use Rattle.ring.proofs.Depths.{few_resident, some_resident}
 use Rattle.ring.proofs.Groups.{eight_pasted, eight_set_at, eight_set_past, eight_zeros, ins_beside_locals, window_paste_other, window_set_other}
 use Rattle.ring.proofs.Uppers.{upper_end, upper_same}
 
@@ -22,29 +25,21 @@ use Rattle.ring.proofs.Uppers.{upper_end, upper_same}
 word_ring : (xs : List Frame) (room : ℕ) (ws : List ℕ) (n p r k : ℕ) → 8 ≤ k → k < 32 → word (ring_frames xs room ws n p r) k ≡ get_or ws (place_of n p k) 0
 word_ring xs room ws n p r k low high =
     let s : Frames = ring_frames xs room ws n p r in
-    ⊎_elim
-    (λ (l : k < 16).
-    word_out s k l
-    ∙ eight_get ws (ins_at (down n p)) (k - 8) (omega arith)
-    ∙ ap (λ (x : ℕ). get_or ws x 0) (sym (cond-true (ltb k 16) _ _ (lt-ltb k 16 l))))
-    (λ (l : 16 ≤ k).
-    ⊎_elim
-    (λ (m : k < 24). word_local s k l m ∙ eight_get ws (locals_at p) (k - 16) (omega arith))
-    (λ (m : 24 ≤ k).
-    let e : ins_at p + (k - 24) ≡ locals_at p + (k - 16) = omega arith in
-    word_in s k m ∙ eight_get ws (ins_at p) (k - 24) (omega arith) ∙ ap (λ (x : ℕ). get_or ws x 0) e)
-    (cases_lt k 24)
-    ∙ ap (λ (x : ℕ). get_or ws x 0) (sym (cond-false (ltb k 16) _ _ (le-ltb k 16 l))))
-    (cases_lt k 16)
+    let out = λ (l : k < 16). word_out s k l ∙ eight_get ws (ins_at (down n p)) (k - 8) (omega arith) in
+    let local = λ (l : 16 ≤ k) (m : k < 24). word_local s k l m ∙ eight_get ws (locals_at p) (k - 16) (omega arith) in
+    let in_word = λ (m : 24 ≤ k). word_in s k m ∙ eight_get ws (ins_at p) (k - 24) (omega arith) in
+    grind (arith, nat_tests)
 
-pub read_ring : (xs : List Frame) (room : ℕ) (ws : List ℕ) (n p r k : ℕ) → 8 ≤ k → k < 32 → Ok (get_or ws (place_of n p k) 0) ≡ read_answer (ring_frames xs room ws n p r) k
-read_ring xs room ws n p r k low high =
-    ap Ok (sym (word_ring xs room ws n p r k low high))
-    ∙ sym (cond-true (is_windowed k) (Ok (word (ring_frames xs room ws n p r) k)) (Err (NoSuchRegister k)) (windowed k low high))
+pub read_ring : (xs : List Frame) (room : ℕ) (t : Windows) (k q v : ℕ) → 8 ≤ k → k < 32 → q ≡ place_of (count_of t) (pointer_of t) k → v ≡ get_or (words_of t) q 0 →
+    Ok v ≡ read_answer (ring_frames xs room (words_of t) (count_of t) (pointer_of t) (resident_of t)) k
+read_ring xs room t k q v low high at is =
+    let s : Frames = ring_frames xs room (words_of t) (count_of t) (pointer_of t) (resident_of t) in
+    ap Ok (is ∙ ap (λ z. get_or (words_of t) z 0) at ∙ sym (word_ring xs room (words_of t) (count_of t) (pointer_of t) (resident_of t) k low high))
+    ∙ sym (cond-true (is_windowed k) (Ok (word s k)) (Err (NoSuchRegister k)) (windowed k low high))
 
 -- write
 
-pub with_word_ring : (xs : List Frame) (room : ℕ) (ws : List ℕ) (n p r k v : ℕ) → 2 ≤ n → p < n → r < n → 8 ≤ k → k < 32 →
+with_word_ring : (xs : List Frame) (room : ℕ) (ws : List ℕ) (n p r k v : ℕ) → 2 ≤ n → p < n → r < n → 8 ≤ k → k < 32 →
     ring_frames xs room (set ws (place_of n p k) v) n p r ≡ with_word (ring_frames xs room ws n p r) k v
 unfolding with_word
 with_word_ring xs room ws n p r k v two inside few low high =
@@ -84,6 +79,15 @@ with_word_ring xs room ws n p r k v two inside few low high =
     (cases_lt k 24)
     ∙ sym (cond-false (ltb k 16) _ _ t))
     (cases_lt k 16)
+
+pub write_ring : (xs : List Frame) (room : ℕ) (t : Windows) (k v q : ℕ) (ws : List ℕ) → 8 ≤ k → k < 32 → q ≡ place_of (count_of t) (pointer_of t) k → ws ≡ set (words_of t) q v →
+    ring_frames xs room ws (count_of t) (pointer_of t) (resident_of t) ≡ write_after (ring_frames xs room (words_of t) (count_of t) (pointer_of t) (resident_of t)) k v
+write_ring xs room t k v q ws low high at wrote =
+    let some = some_resident t in
+    let few = few_resident t in
+    ap (λ l. ring_frames xs room l (count_of t) (pointer_of t) (resident_of t)) (wrote ∙ ap (λ z. set (words_of t) z v) at)
+    ∙ with_word_ring xs room (words_of t) (count_of t) (pointer_of t) (resident_of t) k v (omega arith) t.residency.inside few low high
+    ∙ sym (cond-true (is_windowed k) _ _ (windowed k low high))
 
 -- save
 

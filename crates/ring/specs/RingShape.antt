@@ -12,7 +12,7 @@ use Rattle.stores.specs.declared.store.SaveStore.{Ghosts as Store}
 use Rattle.ring.specs.declared.ring.WindowRing.{WindowRing}
 use Rattle.ring.specs.Cycle.{down, most_resident, wrap}
 use Rattle.ring.specs.Rings.{frames_of, ring_frames}
-use Rattle.ring.specs.Tables.{count_of, pointer_of, resident_of}
+use Rattle.ring.specs.Tables.{count_of, pointer_of, resident_of, words_of}
 use Rattle.ring.specs.Words.{ins_at, locals_at, upper, window_at}
 
 pub length_upper : (ws : List ℕ) (n p c : ℕ) → length (upper ws n p c) ≡ c
@@ -56,4 +56,4 @@ ring_shape s x =
     let some = y.some_resident in
     let limit = y.within_the_limit in
     let low = y.windows.some_resident in
-    ring_frames_shape (s.windows x.store) (s.capacity x.store) t.words (count_of t) (pointer_of t) (resident_of t) t.long y.windows.few y.inside (omega arith) (omega arith) (omega arith) (s.within x.store) (s.eight x.store)
+    ring_frames_shape (s.windows x.store) (s.capacity x.store) (words_of t) (count_of t) (pointer_of t) (resident_of t) t.table.long y.windows.few y.inside (omega arith) (omega arith) (omega arith) (s.within x.store) (s.eight x.store)

@@ -5,7 +5,7 @@ use Rattle.frames.specs.Frames.{Frames, frame_of, zeros}
 use Rattle.stores.specs.declared.store.SaveStore.{Ghosts as Store}
 use Rattle.ring.specs.declared.ring.WindowRing.{WindowRing}
 use Rattle.ring.specs.Cycle.{most_resident}
-use Rattle.ring.specs.Tables.{count_of, pointer_of, resident_of}
+use Rattle.ring.specs.Tables.{count_of, pointer_of, resident_of, words_of}
 use Rattle.ring.specs.Words.{outs_of, upper, residents, window_at}
 
 -- over a store that holds xs, of capacity room: n windows of which r are resident, from the pointer p on
@@ -20,8 +20,8 @@ made_over n xs room = record { older = xs; newest = frame_of zeros zeros; outs =
 -- what a ring stands for, by what its store does
 abbrev pub frames_of : {S P : Type 0} → Store S → WindowRing S P → Frames
 frames_of s x =
-    ring_frames (s.windows x.store) (s.capacity x.store) x.windows.words (count_of x.windows) (pointer_of x.windows) (resident_of x.windows)
+    ring_frames (s.windows x.store) (s.capacity x.store) (words_of x.windows) (count_of x.windows) (pointer_of x.windows) (resident_of x.windows)
 
 -- its resident windows, oldest first
 abbrev pub residents_of : {S P : Type 0} → WindowRing S P → List Frame
-residents_of x = residents x.windows.words (count_of x.windows) (pointer_of x.windows) (resident_of x.windows)
+residents_of x = residents (words_of x.windows) (count_of x.windows) (pointer_of x.windows) (resident_of x.windows)

@@ -1,7 +1,11 @@
--- A ring's word table, by its words, its number of windows, its pointer and how many windows are resident.
-use Rattle.std.specs.Prelude.{ℕ}
+-- A ring's windows, by their words, their number, the pointer and how many are resident.
+use Rattle.std.specs.Prelude.{ℕ, List}
 use Rattle.ring.specs.declared.windows.Windows.{Windows}
 use Rattle.ring.specs.Residencies.{resident_count, window_count}
+
+-- their words
+abbrev pub words_of : Windows → List ℕ
+words_of t = t.table.words
 
 -- how many windows there are
 abbrev pub count_of : Windows → ℕ

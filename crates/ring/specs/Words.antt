@@ -39,6 +39,10 @@ place_of n p r = cond (nat_lt r 16) (ins_at (down n p) + (r - 8)) (locals_at p +
 abbrev pub with_window : List ℕ → ℕ → SavedWindow → List ℕ
 with_window ws w x = paste (paste ws (locals_at w) x.locals 8) (ins_at w) x.ins 8
 
+-- window p's locals and window b's ins set to 0
+abbrev pub zeroed : List ℕ → ℕ → ℕ → List ℕ
+zeroed ws p b = paste (paste ws (locals_at p) zeros 8) (ins_at b) zeros 8
+
 -- a new frame's locals and outs set to 0
 abbrev pub cleared : List ℕ → ℕ → ℕ → List ℕ
-cleared ws n p = paste (paste ws (locals_at p) zeros 8) (ins_at (down n p)) zeros 8
+cleared ws n p = zeroed ws p (down n p)

@@ -6,3 +6,4 @@ pub mod residency;
 pub mod ring;
 pub mod window_count;
 pub mod windows;
+pub mod word_table;

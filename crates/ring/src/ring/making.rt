@@ -14,6 +14,7 @@ use stores::store::SaveStore;
 
 impl<S: SaveStore, P: SpillPolicy> WindowRing<S, P> {
     // A ring over a store, whatever that holds.
+    #[tactic(auto, using(crate::proofs::Modulo::wrap_is_modulo))]
     pub fn new(windows: WindowCount, store: S, policy: P) -> WindowRing<S, P>
         ensures stands_for_the_store_and_a_frame { frames_of S.SaveStore result ≡ made_over windows.count (S.SaveStore.windows store) (S.SaveStore.capacity store) }
         ensures has_moved_nothing { moving S.SaveStore result ≡ begins S.SaveStore windows.count store policy }
@@ -25,7 +26,7 @@ impl<S: SaveStore, P: SpillPolicy> WindowRing<S, P> {
             windows: Windows::new(windows),
             store,
             policy,
-            counts: Counts::zero(),
+            counts: Counts::default(),
         }
     }
 

@@ -1,33 +1,29 @@
 // What a ring answers as a register file, and what it moves.
 ghost use Rattle.std.specs.Prelude.{◌≡◌, ◌+◌, min, refl};
 ghost use Rattle.frames.specs.Frames.{save_answer, save_after, restore_answer, restore_after, write_answer, write_after};
+ghost use Rattle.ring.specs.Cycle.{most_resident};
 ghost use Rattle.ring.specs.Movements.{moving, moves_by, room_for_frames, saves, restores};
 ghost use Rattle.ring.specs.Rings.{frames_of};
 ghost use Rattle.ring.specs.RingShape.{ring_shape};
+ghost use Rattle.ring.specs.Tables.{count_of};
 ghost use Rattle.ring.specs.Transfers.{Spills, Fills};
 
 use super::WindowRing;
 use super::transfers::{fill, spill};
+use super::traps::{note_overflow, note_underflow};
 use frames::file::RegisterFile;
+use frames::register::Register;
 use policies::policy::SpillPolicy;
 use refusal::faults::FileFault;
 use stores::store::SaveStore;
 
 impl<S: SaveStore, P: SpillPolicy> WindowRing<S, P> {
-    // How many frames there are, as it is told.
-    fn frames(&self) -> u32
-        ensures { result ≡ min 65536 ((moving S.SaveStore self.now).numbers.resident + (moving S.SaveStore self.now).numbers.held) }
+    // How many windows a trap moves: the policy's amount, as far as the windows and the store's `limit` allow.
+    fn trap_size(&self, amount: u32, limit: u32) -> u32
+        ensures { result ≡ min (min amount (most_resident (count_of self.now.windows))) limit }
     {
-        (self.windows.residency().resident() + self.store.held()).min(65536)
-    }
-
-    // How many frames more there may be, as it is told.
-    fn room(&self) -> u32
-        ensures { result ≡ min 65535 (room_for_frames (moving S.SaveStore self.now).numbers) }
-    {
-        let residency = self.windows.residency();
-        let free = residency.windows().most_resident() - residency.resident();
-        (free + self.store.spare()).min(65535)
+        let most = self.windows.residency.most_resident();
+        amount.min(most).min(limit)
     }
 }
 
@@ -41,10 +37,8 @@ impl<S: SaveStore, P: SpillPolicy> RegisterFile for WindowRing<S, P> {
     ghost asking = { λ x. record { read = λ r. refl; depth = refl; spare = refl } };
 
     fn read(&self, register: u32) -> Result<u32, FileFault> {
-        if register < 8 || register > 31 {
-            return Err(FileFault::NoSuchRegister(register));
-        }
-        Ok(self.windows.word(register))
+        let at = self.windows.place(Register::try_from(register)?);
+        Ok(self.windows.table.word(at))
     }
 
     fn write(&mut self, register: u32, word: u32) -> Result<(), FileFault>
@@ -53,10 +47,8 @@ impl<S: SaveStore, P: SpillPolicy> RegisterFile for WindowRing<S, P> {
         ensures moves_nothing { moving S.SaveStore self.new ≡ moving S.SaveStore self.old }
         ensures keeps_the_store { self.new.store ≡ self.old.store }
     {
-        if register < 8 || register > 31 {
-            return Err(FileFault::NoSuchRegister(register));
-        }
-        self.windows.set_word(register, word);
+        let at = self.windows.place(Register::try_from(register)?);
+        self.windows.table.set_word(at, word);
         Ok(())
     }
 
@@ -66,18 +58,18 @@ impl<S: SaveStore, P: SpillPolicy> RegisterFile for WindowRing<S, P> {
         ensures moves_as_a_save { moving S.SaveStore self.new ≡ saves P.SpillPolicy (moving S.SaveStore self.old) }
         ensures puts_the_oldest_windows { Spills S.SaveStore P.SpillPolicy self.old self.new }
     {
-        let residency = self.windows.residency();
-        if residency.resident() < residency.windows().most_resident() {
+        let residency = self.windows.residency;
+        if residency.resident() < residency.most_resident() {
             self.windows.enter(0);
             return Ok(());
         }
-        let k = self.spill_size();
+        let k = self.trap_size(self.policy.spill_amount(), self.store.spare());
         // No amount is 0, so it is the store that has no spare.
         if k == 0 {
-            return Err(FileFault::AtCapacity(self.frames()));
+            return Err(FileFault::AtCapacity(self.depth()));
         }
         spill(&self.windows, &mut self.store, k);
-        self.note_overflow(k);
+        note_overflow(&mut self.policy, &mut self.counts, k);
         self.windows.enter(k);
         Ok(())
     }
@@ -88,26 +80,35 @@ impl<S: SaveStore, P: SpillPolicy> RegisterFile for WindowRing<S, P> {
         ensures moves_as_a_restore { moving S.SaveStore self.new ≡ restores P.SpillPolicy (moving S.SaveStore self.old) }
         ensures takes_the_newest_windows { Fills S.SaveStore P.SpillPolicy self.old self.new }
     {
-        if self.windows.residency().resident() > 1 {
+        if self.windows.residency.resident() > 1 {
             self.windows.leave(0);
             return Ok(());
         }
-        let k = self.fill_size();
+        let k = self.trap_size(self.policy.fill_amount(), self.store.held());
         // No amount is 0, so it is the store that is empty.
         if k == 0 {
-            return Err(FileFault::LastFrame(self.frames()));
+            return Err(FileFault::LastFrame(self.depth()));
         }
-        fill(&mut self.windows, &mut self.store, k);
-        self.note_underflow(k);
+        fill(
+            self.windows.residency,
+            &mut self.windows.table,
+            &mut self.store,
+            k,
+        );
+        note_underflow(&mut self.policy, &mut self.counts, k);
         self.windows.leave(k);
         Ok(())
     }
 
+    #[tactic(auto, using(crate::proofs::Depths::ring_depth))]
     fn depth(&self) -> u32 {
-        self.frames()
+        (self.windows.residency.resident() + self.store.held()).min(65536)
     }
 
+    #[tactic(auto, using(crate::proofs::Depths::ring_depth))]
     fn spare(&self) -> u32 {
-        self.room()
+        let residency = self.windows.residency;
+        let free = residency.most_resident() - residency.resident();
+        (free + self.store.spare()).min(65535)
     }
 }

@@ -1,33 +1,9 @@
-use Rattle.std.proofs.Common.{◌≡◌, length, sym, refl, ap, ◌∙◌, arith}
-use Rattle.ring.specs.Movements.{begins, begun}
-use Rattle.frames.specs.Frames.{Frames, fresh}
-use Rattle.ring.specs.Rings.{made_over, ring_frames}
-use Rattle.ring.specs.Tables.{count_of, pointer_of, resident_of}
-use Rattle.ring.proofs.Modulo.{wrap_is_modulo}
-use Rattle.ring.proofs.Movements.{same_movement, same_moving}
-use Rattle.ring.proofs.Views.{new_ring}
+use Rattle.std.proofs.Common.{rules}
+use Rattle.ring.proofs.Fresh.{fresh_exactly, made}
 use Rattle.ring.proofs.ring.WindowRing.new.Goals as goal
 
-pub returns : goal.returns
-returns g c =
-    let n = c.args.windows in
-    let low = n.some_resident in
-    let xs = g.S.SaveStore.windows c.args.store in
-    let room = g.S.SaveStore.capacity c.args.store in
-    let words = c.new.ensures.words_are_zero in
-    let stands = c.new.ensures.first_is_resident in
-    let made : ◌≡◌ {A = Frames} (ring_frames xs room c.new.result.words (count_of c.new.result) (pointer_of c.new.result) (resident_of c.new.result)) (made_over n.count xs room) =
-    (λ i. ring_frames xs room (words i) (stands.windows i) (stands.pointer i) (stands.resident i)) ∙ new_ring xs room n.count (omega arith) n.few in
-    record {
-      stands_for_the_store_and_a_frame = made;
-      is_fresh_exactly_over_an_empty_store = (
-        λ none. record { one_frame_of_zeros = made ∙ ap (λ l. made_over n.count l room) none ∙ ap fresh (ap (λ (f : Frames). f.capacity) (sym made)); nothing_moved = c.zero.ensures },
-        λ is. ap (λ (f : Frames). f.older) (sym made ∙ is.one_frame_of_zeros),
-      );
-      has_moved_nothing =
-          same_moving _ (begins g.S.SaveStore n.count c.args.store c.args.policy)
-          (same_movement _ (begun n.count (length xs) room) (record { windows = stands.windows; pointer = stands.pointer; resident = stands.resident; mask = stands.mask; held = refl; room = refl; counts = c.zero.ensures }))
-          refl;
-      windows_are_numbered_modulo_their_count = wrap_is_modulo;
-      holds_the_store = refl;
-    }
+pub returns-clause-stands_for_the_store_and_a_frame : goal.returns-clause-stands_for_the_store_and_a_frame
+returns-clause-stands_for_the_store_and_a_frame g c = search (rules, made)
+
+pub returns-clause-is_fresh_exactly_over_an_empty_store : goal.returns-clause-is_fresh_exactly_over_an_empty_store
+returns-clause-is_fresh_exactly_over_an_empty_store g c = fresh_exactly g.S.SaveStore _ c.args.windows c.new.ensures.words_are_zero c.new.ensures.first_is_resident (search rules)

@@ -1,48 +1,17 @@
-use Rattle.std.proofs.Common.{◌≡◌, ℕ, ◌+◌, ◌-◌, List, length, sym, refl, ap, ◌∙◌, arith}
-use Rattle.std.proofs.lemmas.List.{drop_all, take_all}
-use Rattle.frames.specs.declared.frame.Frame.{Frame}
-use Rattle.ring.specs.Cycle.{wrap}
-use Rattle.ring.specs.Residencies.{window_count}
-use Rattle.ring.specs.Tables.{count_of, pointer_of}
-use Rattle.ring.specs.Words.{upper, window_at}
-use Rattle.ring.proofs.Trips.{fill_more, newest_kept, take_fewer, taken_is}
+use Rattle.std.proofs.Common.{rules, arith}
+use Rattle.ring.proofs.Trips.{fill_more, newest_kept, take_fewer}
 use Rattle.ring.proofs.ring.transfers.fill.Goals as goal
-
-pub loop-j-init : goal.loop-j-init
-loop-j-init g c =
-    let xs : List Frame = g.S.SaveStore.windows c.args.store.now in (
-      record {
-        store_lost_the_newest = sym (take_all (length xs - 0) xs (omega arith));
-        windows_have_them = sym (drop_all (length xs - 0) xs (omega arith));
-      },
-      refl,
-      refl,
-      refl,
-    )
 
 pub loop-j-preserved : goal.loop-j-preserved
 loop-j-preserved g c =
-    let t = c.args.windows.now in
-    let y = t.residency in
-    let few = y.windows.few in
-    let n : ℕ = count_of t in
-    let p : ℕ = pointer_of t in
-    let j : ℕ = c.loop-j.j in
-    let ws : List ℕ = c.loop-j.windows.words in
-    let xs : List Frame = g.S.SaveStore.windows c.args.store.now in
-    let ys : List Frame = g.S.SaveStore.windows c.loop-j.store in
-    let sofar = c.loop-j.invariant.0 in
-    let kept = c.loop-j.invariant.2 in
-    let at : c.target.result ≡ wrap (count_of t) (pointer_of t + (c.loop-j.j + 1)) = c.target.ensures ∙ (λ i. wrap (window_count (kept i)) ((kept i).pointer + (c.loop-j.j + 1))) in
-    let is = c.take.ensures.gives_the_newest ∙ taken_is xs ys j _ (omega arith) sofar.store_lost_the_newest in
-    let wrote = c.set_window.ensures.changes_one_window in (
-      record {
-        store_lost_the_newest = take_fewer xs ys _ j (omega arith) sofar.store_lost_the_newest c.take.ensures.holds_the_list_after;
-        windows_have_them =
-            ap (λ (vs : List ℕ). upper vs n p (j + 1)) wrote
-            ∙ fill_more xs ws n p j c.target.result c.take.new.to _ c.loop-j.windows.long few y.inside (omega arith) (omega arith) at is sofar.windows_have_them;
-      },
-      ap (λ (vs : List ℕ). window_at vs p) wrote ∙ newest_kept ws n p j c.target.result c.take.new.to c.loop-j.windows.long few y.inside (omega arith) at ∙ c.loop-j.invariant.1,
-      c.set_window.ensures.keeps_the_residency ∙ kept,
-      c.take.ensures.keeps_the_capacity ∙ c.loop-j.invariant.3,
-    )
+    let y = c.args.residency in
+    let long = c.loop-j.table.long in
+    let sofar = c.loop-j.invariant in
+    record {
+      filled = record {
+        store_lost_the_newest = search (rules, take_fewer);
+        windows_have_them = fill_more _ _ _ _ _ _ c.take.new.to c.set_window.ensures long y.windows.few y.inside (omega arith) c.target.ensures _ _ _ (omega arith) c.take.ensures.gives_the_newest sofar.filled.store_lost_the_newest sofar.filled.windows_have_them;
+      };
+      newest_kept = newest_kept _ _ _ _ _ _ c.take.new.to c.set_window.ensures long y.windows.few y.inside (omega arith) c.target.ensures _ sofar.newest_kept;
+      same_capacity = search rules;
+    }

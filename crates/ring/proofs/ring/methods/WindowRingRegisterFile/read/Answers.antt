@@ -1,14 +1,6 @@
-use Rattle.std.proofs.Common.{Ok, ap, ◌∙◌, arith}
-use Rattle.ring.specs.Tables.{count_of, pointer_of, resident_of}
-use Rattle.ring.proofs.ring.methods.WindowRingRegisterFile.read.Goals as goal
+use Rattle.std.proofs.Common.{arith}
 use Rattle.ring.proofs.Views.{read_ring}
+use Rattle.ring.proofs.ring.methods.WindowRingRegisterFile.read.Goals as goal
 
 pub returns : goal.returns
-returns g c =
-    let x = c.args.self.now in
-    let t = x.windows in
-    record {
-      answers_as_the_frames_do =
-          ap Ok c.word.ensures
-          ∙ read_ring (g.S.SaveStore.windows x.store) (g.S.SaveStore.capacity x.store) t.words (count_of t) (pointer_of t) (resident_of t) c.args.register (omega arith) (omega arith);
-    }
+returns g c = record { answers_as_the_frames_do = read_ring _ _ c.args.self.now.windows _ _ _ (omega arith) (omega arith) c.place.ensures.is_its_place c.word.ensures }

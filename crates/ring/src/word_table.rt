@@ -1,0 +1,73 @@
+// The words of a ring's windows.
+ghost use Rattle.std.specs.Prelude.{◌≡◌, length};
+
+use stores::window::SavedWindow;
+
+// Window w's locals begin at word 16 × w and its ins eight words above. Its outs are the ins of the window below.
+#[derive(Clone, Copy)]
+pub struct WordTable {
+    words: [u32; 512],
+    ghost long: { length words ≡ 512 },
+}
+
+impl WordTable {
+    ghost use Rattle.std.specs.Prelude.{◌≡◌, ◌+◌, ◌<◌, ◌≤◌, replicate, slice_index, slice_set};
+    ghost use Rattle.std.proofs.Math.Seq.{paste};
+    ghost use Rattle.frames.specs.Flat.{eight};
+    ghost use Rattle.ring.specs.Words.{ins_at, locals_at, with_window, zeroed};
+
+    pub(crate) fn zeros() -> WordTable
+        ensures { result.words ≡ replicate 512 0 }
+    {
+        WordTable { words: [0; 512] }
+    }
+
+    pub(crate) fn word(&self, at: usize) -> u32
+        requires { at < 512 }
+        ensures { result ≡ slice_index self.now.words at }
+    {
+        self.words[at]
+    }
+
+    pub(crate) fn set_word(&mut self, at: usize, word: u32)
+        requires { at < 512 }
+        ensures { self.new.words ≡ slice_set self.old.words at word }
+    {
+        self.words[at] = word;
+    }
+
+    // Window `w`, as it is saved.
+    pub(crate) fn window(&self, w: u32) -> SavedWindow
+        requires { w < 32 }
+        ensures copies_the_locals { result.locals ≡ eight self.now.words (locals_at w) }
+        ensures copies_the_ins { result.ins ≡ eight self.now.words (ins_at w) }
+    {
+        let at = (w * 16) as usize;
+        SavedWindow {
+            locals: self.words[at..at + 8].try_into().unwrap(),
+            ins: self.words[at + 8..at + 16].try_into().unwrap(),
+        }
+    }
+
+    // Window `w` becomes the saved one.
+    pub(crate) fn set_window(&mut self, w: u32, saved: &SavedWindow)
+        requires { w < 32 }
+        ensures { self.new.words ≡ with_window self.old.words w saved.now }
+    {
+        let at = (w * 16) as usize;
+        self.words[at..at + 8].copy_from_slice(&saved.locals);
+        self.words[at + 8..at + 16].copy_from_slice(&saved.ins);
+    }
+
+    // Sets window `w`'s locals and window `below`'s ins to 0.
+    #[tactic(auto, using(std::proofs::lemmas::Slice::overwrites))]
+    pub(crate) fn clear(&mut self, w: u32, below: u32)
+        requires { (w < 32) × (below < 32) }
+        ensures { self.new.words ≡ zeroed self.old.words w below }
+    {
+        let locals = (w * 16) as usize;
+        let ins = (below * 16 + 8) as usize;
+        self.words[locals..locals + 8].fill(0);
+        self.words[ins..ins + 8].fill(0);
+    }
+}
