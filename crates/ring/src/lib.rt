@@ -4,6 +4,7 @@
 pub mod counts;
 pub mod residency;
 pub mod ring;
+mod window;
 pub mod window_count;
 pub mod windows;
 pub mod word_table;

@@ -2,6 +2,7 @@
 ghost use Rattle.std.specs.Prelude.{◌≡◌, ◌+◌, ◌-◌, ◌^◌, ◌<◌, ◌≤◌, bit_and, bit_or, count_ones};
 ghost use Rattle.ring.specs.Cycle.{mask_of, most_resident, wrap};
 
+use crate::window::Window;
 use crate::window_count::WindowCount;
 
 // The resident windows are the pointer's and those following it upwards, from 1 to the limit of them.
@@ -18,27 +19,25 @@ pub struct Residency {
 }
 
 // x modulo n.
-fn wrapped(n: u32, x: u32) -> u32
+fn wrapped(n: u32, x: u32) -> Window
     requires { (x < n + n) × (n ≤ 32) }
-    ensures { result ≡ wrap n x }
+    ensures { result.number ≡ wrap n x }
 {
-    if x < n { x } else { x - n }
+    Window::new(if x < n { x } else { x - n })
 }
 
 // The mask with window w not resident.
-fn with_bit(mask: u32, w: u32) -> u32
-    requires { w < 32 }
-    ensures { result ≡ bit_or mask (2 ^ w) }
+fn with_bit(mask: u32, w: Window) -> u32
+    ensures { result ≡ bit_or mask (2 ^ w.number) }
 {
-    mask | 1 << w
+    mask | 1 << w.number()
 }
 
 // The mask with window w resident.
-fn without_bit(mask: u32, w: u32) -> u32
-    requires { w < 32 }
-    ensures { result ≡ bit_and mask (4294967295 - 2 ^ w) }
+fn without_bit(mask: u32, w: Window) -> u32
+    ensures { result ≡ bit_and mask (4294967295 - 2 ^ w.number) }
 {
-    mask & !(1 << w)
+    mask & !(1 << w.number())
 }
 
 // The mask with window 0 alone resident.
@@ -48,7 +47,7 @@ fn first_mask(windows: WindowCount) -> u32
 {
     let mut mask = 0;
     for w in 1..u32::from(windows) {
-        mask = with_bit(mask, w);
+        mask = with_bit(mask, Window::new(w));
     }
     mask
 }
@@ -77,10 +76,10 @@ impl Residency {
         self.windows.most_resident()
     }
 
-    pub(crate) fn pointer(&self) -> u32
-        ensures { result ≡ self.now.pointer }
+    pub(crate) fn pointer(&self) -> Window
+        ensures { result.number ≡ self.now.pointer }
     {
-        self.pointer
+        Window::new(self.pointer)
     }
 
     // How many windows are resident.
@@ -91,33 +90,33 @@ impl Residency {
     }
 
     // The window `by` above the pointer's.
-    fn above(&self, by: u32) -> u32
+    fn above(&self, by: u32) -> Window
         requires { by < window_count self.now }
-        ensures { result ≡ wrap (window_count self.now) (self.now.pointer + by) }
+        ensures { result.number ≡ wrap (window_count self.now) (self.now.pointer + by) }
     {
         wrapped(u32::from(self.windows), self.pointer + by)
     }
 
     // The window below the pointer's: it has the pointer's outs.
-    pub(crate) fn below(&self) -> u32
-        ensures { result ≡ down (window_count self.now) self.now.pointer }
+    pub(crate) fn below(&self) -> Window
+        ensures { result.number ≡ down (window_count self.now) self.now.pointer }
     {
         let n = u32::from(self.windows);
         wrapped(n, self.pointer + n - 1)
     }
 
     // The resident window that `j` others are older than.
-    pub(crate) fn oldest(&self, j: u32) -> u32
+    pub(crate) fn oldest(&self, j: u32) -> Window
         requires { j < resident_count self.now }
-        ensures { result ≡ wrap (window_count self.now) (self.now.pointer + (resident_count self.now - (j + 1))) }
+        ensures { result.number ≡ wrap (window_count self.now) (self.now.pointer + (resident_count self.now - (j + 1))) }
     {
         self.above(self.resident() - j - 1)
     }
 
     // The window that the `j`th taken from the store goes to, from 0.
-    pub(crate) fn target(&self, j: u32) -> u32
+    pub(crate) fn target(&self, j: u32) -> Window
         requires { j + 1 < window_count self.now }
-        ensures { result ≡ wrap (window_count self.now) (self.now.pointer + (j + 1)) }
+        ensures { result.number ≡ wrap (window_count self.now) (self.now.pointer + (j + 1)) }
     {
         self.above(j + 1)
     }
@@ -145,7 +144,7 @@ impl Residency {
         for j in 0..k {
             mask = without_bit(mask, self.above(self.resident() + j));
         }
-        with_bit(mask, self.pointer)
+        with_bit(mask, self.pointer())
     }
 
     // The `k` oldest resident windows are given up, and then the pointer goes down by one. It is one step, since
@@ -157,7 +156,7 @@ impl Residency {
     {
         *self = Residency {
             windows: self.windows,
-            pointer: self.below(),
+            pointer: self.below().number(),
             mask: self.advanced_mask(k),
         };
     }
@@ -170,7 +169,7 @@ impl Residency {
     {
         *self = Residency {
             windows: self.windows,
-            pointer: self.above(1),
+            pointer: self.above(1).number(),
             mask: self.retreated_mask(k),
         };
     }

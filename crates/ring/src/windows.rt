@@ -33,11 +33,11 @@ impl Windows {
         ensures is_its_place { result ≡ place_of (count_of self.now) (pointer_of self.now) register.number }
         ensures is_in_the_table { result < 512 }
     {
-        let register = u32::from(register);
-        if register < 16 {
-            (self.residency.below() * 16 + 8 + (register - 8)) as usize
+        let offset = register.offset();
+        if offset < 8 {
+            self.residency.below().ins() + offset
         } else {
-            (self.residency.pointer() * 16 + (register - 16)) as usize
+            self.residency.pointer().locals() + (offset - 8)
         }
     }
 

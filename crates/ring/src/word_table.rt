@@ -1,6 +1,7 @@
 // The words of a ring's windows.
 ghost use Rattle.std.specs.Prelude.{◌≡◌, length};
 
+use crate::window::Window;
 use stores::window::SavedWindow;
 
 // Window w's locals begin at word 16 × w and its ins eight words above. Its outs are the ins of the window below.
@@ -37,36 +38,32 @@ impl WordTable {
     }
 
     // Window `w`, as it is saved.
-    pub(crate) fn window(&self, w: u32) -> SavedWindow
-        requires { w < 32 }
-        ensures copies_the_locals { result.locals ≡ eight self.now.words (locals_at w) }
-        ensures copies_the_ins { result.ins ≡ eight self.now.words (ins_at w) }
+    pub(crate) fn window(&self, w: Window) -> SavedWindow
+        ensures copies_the_locals { result.locals ≡ eight self.now.words (locals_at w.number) }
+        ensures copies_the_ins { result.ins ≡ eight self.now.words (ins_at w.number) }
     {
-        let at = (w * 16) as usize;
+        let (locals, ins) = (w.locals(), w.ins());
         SavedWindow {
-            locals: self.words[at..at + 8].try_into().unwrap(),
-            ins: self.words[at + 8..at + 16].try_into().unwrap(),
+            locals: self.words[locals..locals + 8].try_into().unwrap(),
+            ins: self.words[ins..ins + 8].try_into().unwrap(),
         }
     }
 
     // Window `w` becomes the saved one.
-    pub(crate) fn set_window(&mut self, w: u32, saved: &SavedWindow)
-        requires { w < 32 }
-        ensures { self.new.words ≡ with_window self.old.words w saved.now }
+    pub(crate) fn set_window(&mut self, w: Window, saved: &SavedWindow)
+        ensures { self.new.words ≡ with_window self.old.words w.number saved.now }
     {
-        let at = (w * 16) as usize;
-        self.words[at..at + 8].copy_from_slice(&saved.locals);
-        self.words[at + 8..at + 16].copy_from_slice(&saved.ins);
+        let (locals, ins) = (w.locals(), w.ins());
+        self.words[locals..locals + 8].copy_from_slice(&saved.locals);
+        self.words[ins..ins + 8].copy_from_slice(&saved.ins);
     }
 
     // Sets window `w`'s locals and window `below`'s ins to 0.
     #[tactic(auto, using(std::proofs::lemmas::Slice::overwrites))]
-    pub(crate) fn clear(&mut self, w: u32, below: u32)
-        requires { (w < 32) × (below < 32) }
-        ensures { self.new.words ≡ zeroed self.old.words w below }
+    pub(crate) fn clear(&mut self, w: Window, below: Window)
+        ensures { self.new.words ≡ zeroed self.old.words w.number below.number }
     {
-        let locals = (w * 16) as usize;
-        let ins = (below * 16 + 8) as usize;
+        let (locals, ins) = (w.locals(), below.ins());
         self.words[locals..locals + 8].fill(0);
         self.words[ins..ins + 8].fill(0);
     }
