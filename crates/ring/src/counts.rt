@@ -1,5 +1,6 @@
 // How often a ring moved windows, and how many.
-ghost use Rattle.std.specs.Prelude.{Some};
+ghost use Rattle.std.specs.Prelude.{◌≡◌, Some};
+ghost use Rattle.ring.specs.Movements.{no_counts};
 ghost use Rattle.ring.specs.Texts.{counts_text};
 
 use std::fmt;
@@ -13,6 +14,15 @@ pub struct Counts {
     // How many windows the store gained, and lost.
     pub spilled: u64,
     pub filled: u64,
+}
+
+impl Counts {
+    // A ring as it is made has moved nothing.
+    pub(crate) fn zero() -> Counts
+        ensures { result ≡ no_counts }
+    {
+        Counts::default()
+    }
 }
 
 impl fmt::Display for Counts {

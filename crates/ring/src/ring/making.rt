@@ -26,7 +26,7 @@ impl<S: SaveStore, P: SpillPolicy> WindowRing<S, P> {
             windows: Windows::new(windows),
             store,
             policy,
-            counts: Counts::default(),
+            counts: Counts::zero(),
         }
     }
 
