@@ -3,7 +3,7 @@
 
 #[cfg(test)]
 mod tests {
-    use playback::faults::Expected;
+    use script::faults::Expected;
     use playback::replaying::replay;
     use std::test::Fail;
 

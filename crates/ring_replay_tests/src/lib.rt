@@ -3,7 +3,7 @@
 
 #[cfg(test)]
 mod tests {
-    use playback::faults::Expected;
+    use script::faults::Expected;
     use ring_playback::replaying::replay;
     use std::process::Abort;
     use std::test::Fail;

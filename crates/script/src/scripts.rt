@@ -1,12 +1,10 @@
 // The lines of a trace after the first, each read as a call.
-ghost use Rattle.std.specs.Prelude.{◌≡◌, [], ◌∷◌, ◌++◌, IfOk, OnOk};
+ghost use Rattle.std.specs.Prelude.{IfOk};
 ghost use Rattle.trace.specs.Lines.{lines};
-ghost use Rattle.playback.specs.declared.faults.Expected.TheVariants.{Request};
-ghost use Rattle.playback.specs.Playing.{unread};
 ghost use Rattle.script.specs.Scripts.{Scripted};
 
+use crate::faults::{Expected, LineFault};
 use frames::calls::Call;
-use playback::faults::{Expected, LineFault};
 use std::alloc::{AllocError, Global};
 use trace::lines::split_line;
 use trace::requests::read_call;
@@ -28,31 +26,15 @@ pub fn read_script(heap: Global, requests: &[u8]) -> Result<Script, AllocError>
     while !rest.is_empty() {
         let (request, after) = split_line(rest);
         let Some(call) = read_call(request) else {
-            return Ok(broken_off(calls, line));
+            let fault = Some(LineFault {
+                line,
+                expected: Expected::Request,
+            });
+            return Ok(Script { calls, fault });
         };
-        add(&mut calls, call)?;
+        calls.push(call)?;
         rest = after;
         line += 1;
     }
     Ok(Script { calls, fault: None })
-}
-
-fn add(calls: &mut Vec<Call>, call: Call) -> Result<(), AllocError>
-    ensures { OnOk result (calls.new.items ≡ calls.old.items ++ call ∷ []) }
-{
-    calls.push(call)?;
-    Ok(())
-}
-
-// The line is no call.
-fn broken_off(calls: Vec<Call>, line: u64) -> Script
-    ensures keeps_the_calls { result.calls ≡ calls }
-    ensures names_the_line { result.fault ≡ unread line Request }
-{
-    let expected = Expected::Request;
-    let fault = LineFault { line, expected };
-    Script {
-        calls,
-        fault: Some(fault),
-    }
 }

@@ -1,8 +1,8 @@
 -- The text of a line fault. `decimal n` is what `{n}` writes.
 use Rattle.std.specs.Prelude.{ℕ, List, ◌++◌, codes, decimal}
-use Rattle.playback.specs.declared.faults.Expected.{Expected}
-use Rattle.playback.specs.declared.faults.Expected.TheVariants.{Setup, AnySetup, Request}
-use Rattle.playback.specs.declared.faults.LineFault.{LineFault}
+use Rattle.script.specs.declared.faults.Expected.{Expected}
+use Rattle.script.specs.declared.faults.Expected.TheVariants.{Setup, AnySetup, Request}
+use Rattle.script.specs.declared.faults.LineFault.{LineFault}
 
 -- the forms that a line may have
 abbrev pub expected_text : Expected → List ℕ

@@ -1,11 +1,11 @@
 // A line of a trace that is none of the requests.
 ghost use Rattle.std.specs.Prelude.{Some};
-ghost use Rattle.playback.specs.Texts.{expected_text, fault_text};
+ghost use Rattle.script.specs.Texts.{expected_text, fault_text};
 
 use std::fmt;
 
 // What a line was to be.
-#[derive(Clone, Copy)]
+#[derive(Clone, Copy, Debug)]
 pub enum Expected {
     // The first line, which chooses a flat file.
     Setup,
@@ -15,7 +15,7 @@ pub enum Expected {
     Request,
 }
 
-#[derive(Clone, Copy)]
+#[derive(Clone, Copy, Debug)]
 pub struct LineFault {
     // Lines count from 1.
     pub line: u64,
