@@ -1,8 +1,10 @@
 // Calls made on a ring, and on a file beside it that has to agree.
 ghost use Rattle.std.specs.Prelude.{◌≡◌, true, ◌&&◌, ◌++◌, IfOk, string_bytes, OnOk};
-ghost use Rattle.frames.specs.Calls.{answer_to, after_call};
-ghost use Rattle.ring.specs.Movements.{moving, moves_by};
+ghost use Rattle.frames.specs.Calls.{answer_to, after_call, after_calls};
+ghost use Rattle.listing.specs.Listing.{listing_text};
+ghost use Rattle.ring.specs.Movements.{moving, moves_by, moves_by_all};
 ghost use Rattle.ring.specs.Rings.{frames_of};
+ghost use Rattle.playback.specs.Playing.{answers_text};
 ghost use Rattle.ring_playback.specs.Beside.{ScriptTold, agreement_text, summary_text};
 
 use frames::calls::{Answer, Call, perform};
@@ -34,15 +36,25 @@ impl<S: SaveStore + Drop, P: SpillPolicy + Drop, F: RegisterFile + Drop> Compare
     {
         let Script { calls, fault } = script;
         let mut text = String::new(heap);
-        for call in &calls {
-            let answer = self.perform(*call);
-            writeln!(text, "{answer}")?;
-        }
+        self.answer(&mut text, calls.as_slice())?;
         if fault.is_some() {
             return Ok(Playback { text, fault });
         }
         self.sum_up(heap, &mut text)?;
         Ok(Playback { text, fault })
+    }
+
+    // Makes the calls on both, and adds each answer of the ring on a line.
+    fn answer(&mut self, text: &mut String, calls: &[Call]) -> Result<(), AllocError>
+        ensures writes_each_answer { OnOk result (string_bytes text.new ≡ string_bytes text.old ++ answers_text (frames_of S.SaveStore self.old.ring) calls.now) }
+        ensures holds_the_frames_after { OnOk result (frames_of S.SaveStore self.new.ring ≡ after_calls (frames_of S.SaveStore self.old.ring) calls.now) }
+        ensures moves_as_the_calls_do { OnOk result (moving S.SaveStore self.new.ring ≡ moves_by_all P.SpillPolicy (moving S.SaveStore self.old.ring) calls.now) }
+    {
+        for call in calls {
+            let answer = self.perform(*call);
+            writeln!(text, "{answer}")?;
+        }
+        Ok(())
     }
 
     // Makes one call on both, and gives the ring's answer.
@@ -61,26 +73,33 @@ impl<S: SaveStore + Drop, P: SpillPolicy + Drop, F: RegisterFile + Drop> Compare
     fn sum_up(self, heap: Global, text: &mut String) -> Result<(), AllocError>
         ensures { OnOk result (string_bytes text.new ≡ string_bytes text.old ++ summary_text (frames_of S.SaveStore self.ring) (moving S.SaveStore self.ring).numbers.counts) }
     {
+        // Listing unwinds the ring, which would count.
+        let counts = self.ring.counts();
+        let (frames, agrees) = self.list(heap)?;
+        let agreement = agreement(agrees);
+        write!(text, "{frames}{agreement}\n{counts}\n")
+    }
+
+    // The ring's frames, and whether the file beside it was left with the same.
+    fn list(self, heap: Global) -> Result<(String, bool), AllocError>
+        ensures { IfOk result (λ listed. (string_bytes listed.0 ≡ listing_text (frames_of S.SaveStore self.ring)) × (listed.1 ≡ true)) }
+    {
         let Compared {
             ring,
             beside,
             agrees,
         } = self;
-        // Listing unwinds the ring, which would count.
-        let counts = ring.counts();
         let frames = listing(heap, ring)?;
         let expected = listing(heap, beside)?;
-        let agreement = agreement(agrees, frames.as_str() == expected.as_str());
-        text.push_str(frames.as_str())?;
-        writeln!(text, "{agreement}\n{counts}")
+        let same = frames == expected;
+        Ok((frames, agrees && same))
     }
 }
 
-// Whether the file beside a ring gave the same answers and was left with the same frames.
-fn agreement(same_answers: bool, same_frames: bool) -> &'static str
-    ensures { result.now ≡ agreement_text (same_answers && same_frames) }
+fn agreement(agrees: bool) -> &'static str
+    ensures { result.now ≡ agreement_text agrees }
 {
-    if same_answers && same_frames {
+    if agrees {
         "agrees with a flat file"
     } else {
         "differs from a flat file"
