@@ -1,42 +1,19 @@
 -- The flat file that a first line asks for, and that its lines have one outcome.
-use Rattle.std.proofs.Common.{◌≡◌, ℕ, ◌^◌, ◌<◌, true, false, List, [], length, Some, None, codes, decimal, Option, sym, ap, ◌∙◌, subst, arith}
-use Rattle.std.proofs.lemmas.Bool.{cond-true, cond-false}
+use Rattle.std.proofs.Common.{◌≡◌, ℕ, ◌^◌, ◌<◌, List, [], length, Some, None, codes, decimal, Option, sym, ap, ◌∙◌, arith}
 use Rattle.std.proofs.lemmas.Fmt.{decimal_injective}
 use Rattle.std.proofs.lemmas.List.{append_cancel_left}
 use Rattle.refusal.specs.declared.faults.SetupFault.{SetupFault}
-use Rattle.refusal.specs.declared.faults.SetupFault.TheVariants.{FlatCapacity}
-use Rattle.frames.specs.declared.calls.Call.{Call}
-use Rattle.frames.specs.Frames.{Frames, fresh}
-use Rattle.frames.specs.Flat.{is_flat_capacity}
+use Rattle.frames.specs.Frames.{fresh}
 use Rattle.trace.specs.Lines.{lines, first_line, after_line}
 use Rattle.trace.specs.Texts.{Small, flat_text}
 use Rattle.script.specs.declared.faults.Expected.TheVariants.{Setup}
 use Rattle.script.specs.declared.faults.LineFault.{LineFault}
-use Rattle.script.specs.Scripts.{Scripted, unread}
+use Rattle.script.specs.Scripts.{unread}
 use Rattle.script.proofs.OneScript.{one_script}
-use Rattle.playback.specs.Playing.{Refused, played_text}
+use Rattle.playback.specs.Playing.{played_text}
 use Rattle.playback.specs.Flats.{FlatOutcome, PlayedFlat, Unless, capacity_fault}
 use Rattle.playback.specs.Replaying.{FlatLine, OneOutcome, Replays}
 use Rattle.playback.proofs.First.{Same, chosen, not_chosen, one_outcome}
-
--- a flat file is made, or its capacity is at fault
-pub flat_fits : (n : ℕ) → is_flat_capacity n ≡ true → None ≡ capacity_fault n
-flat_fits n such = sym (cond-true (is_flat_capacity n) _ _ such)
-
-pub flat_faulty : (n : ℕ) (e : SetupFault) → is_flat_capacity n ≡ false → e ≡ FlatCapacity n → Some e ≡ capacity_fault n
-flat_faulty n e no_such is = ap Some is ∙ sym (cond-false (is_flat_capacity n) _ _ no_such)
-
--- by whether there is a fault
-pub with_fault : (o : Option SetupFault) (e : SetupFault) (claim : Type 0) (text : List ℕ) (f : Option LineFault) → Some e ≡ o → Refused e text f → Unless o claim text f
-with_fault o e claim text f is refused = subst (λ (x : Option SetupFault). Unless x claim text f) is refused
-
-pub without_fault : (o : Option SetupFault) (claim : Type 0) (text : List ℕ) (f : Option LineFault) → None ≡ o → claim → Unless o claim text f
-without_fault o claim text f is holds = subst (λ (x : Option SetupFault). Unless x claim text f) is holds
-
--- what a flat file printed, said of the line that ended the script
-pub played : (n : ℕ) (ls : List (List ℕ)) (cs : List Call) (s : Frames) (g f : Option LineFault) (text : List ℕ) → s ≡ fresh n → Scripted 2 ls cs g → text ≡ played_text s cs g → f ≡ g → PlayedFlat n ls text f
-played n ls cs s g f text is script told same =
-    (cs, subst (λ (x : Option LineFault). Scripted 2 ls cs x) (sym same) script, told ∙ (λ i. played_text (is i) cs (sym same i)))
 
 -- two files of one first line have one capacity
 flat_some : (n : ℕ) → [] ≡ flat_text n → ⊥

@@ -26,11 +26,7 @@ pub fn replay(heap: Global, trace: &[u8]) -> Result<Playback, AllocError>
 }
 
 // The file is made first: where it is refused, no other line is looked at.
-pub fn replay_flat(
-    heap: Global,
-    capacity: u32,
-    requests: &[u8],
-) -> Result<Playback, AllocError>
+pub fn replay_flat(heap: Global, capacity: u32, requests: &[u8]) -> Result<Playback, AllocError>
     ensures plays_every_line_or_refuses { IfOk result (λ p. FlatOutcome capacity (lines requests.now) (string_bytes p.text) p.fault) }
 {
     match FlatFile::new(capacity) {

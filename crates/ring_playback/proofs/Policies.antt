@@ -1,5 +1,5 @@
 -- A ring with the policy that was asked for, once its number of windows is one.
-use Rattle.std.proofs.Common.{◌≡◌, ℕ, true, List, Some, None, Ok, Err, Option, Result, sym, refl, ap, ◌∙◌, subst}
+use Rattle.std.proofs.Common.{◌≡◌, ℕ, true, List, None, Ok, Err, Option, Result, sym, refl, ap, ◌∙◌, subst}
 use Rattle.std.proofs.lemmas.Bool.{cond-true}
 use Rattle.refusal.specs.declared.faults.SetupFault.{SetupFault}
 use Rattle.policies.specs.declared.adaptive.Adaptive.{Adaptive}
@@ -32,8 +32,8 @@ module _ (setup : RingSetup) (n room : ℕ) (ls : List (List ℕ)) (result : Res
       let makes : None ≡ policy_fault setup.policy = sym fine ∙ ap policy_fault (sym is) in
       tried_then _ _ C _ result (λ i. or_else (counts i) (or_else (makes i) (capacity_fault (ring_capacity (counted i) (roomy i)))))
       (λ text f claim.
-        subst (λ (x : PolicySetup). PlayedWith x setup.windows (room_of setup.store) ls text f) (sym is)
-        (subst (λ (x : ℕ). PlayedWith c x (room_of setup.store) ls text f) counted (subst (λ (x : ℕ). PlayedWith c n x ls text f) roomy (then text f claim))))
+      subst (λ (x : PolicySetup). PlayedWith x setup.windows (room_of setup.store) ls text f) (sym is)
+      (subst (λ (x : ℕ). PlayedWith c x (room_of setup.store) ls text f) counted (subst (λ (x : ℕ). PlayedWith c n x ls text f) roomy (then text f claim))))
 
   pub with_fixed : (spill fill : ℕ) (p : Fixed) → setup.policy ≡ policy.Fixed spill fill → (fixed_fault spill fill ≡ None) × IsFixed spill fill p →
       Tried (capacity_fault (ring_capacity n room)) (PlayedRing fixed_policy p n room ls) result → Tried (ring_fault setup) (PlayedWith setup.policy setup.windows (room_of setup.store) ls) result

@@ -1,5 +1,6 @@
 // A line of a trace that is none of the requests.
-ghost use Rattle.std.specs.Prelude.{Some};
+ghost use Rattle.std.specs.Prelude.{◌≡◌, Some};
+ghost use Rattle.script.specs.Scripts.{unread};
 ghost use Rattle.script.specs.Texts.{expected_text, fault_text};
 
 use std::fmt;
@@ -20,6 +21,13 @@ pub struct LineFault {
     // Lines count from 1.
     pub line: u64,
     pub expected: Expected,
+}
+
+// The line is none of the forms expected there.
+pub fn unread(line: u64, expected: Expected) -> Option<LineFault>
+    ensures names_the_line { result ≡ unread line expected }
+{
+    Some(LineFault { line, expected })
 }
 
 impl fmt::Display for Expected {

@@ -1,9 +1,9 @@
 // The lines of a trace after the first, each read as a call.
-ghost use Rattle.std.specs.Prelude.{IfOk};
+ghost use Rattle.std.specs.Prelude.{◌≡◌, [], ◌∷◌, ◌++◌, IfOk, OnOk};
 ghost use Rattle.trace.specs.Lines.{lines};
 ghost use Rattle.script.specs.Scripts.{Scripted};
 
-use crate::faults::{Expected, LineFault};
+use crate::faults::{Expected, LineFault, unread};
 use frames::calls::Call;
 use std::alloc::{AllocError, Global};
 use trace::lines::split_line;
@@ -26,15 +26,19 @@ pub fn read_script(heap: Global, requests: &[u8]) -> Result<Script, AllocError>
     while !rest.is_empty() {
         let (request, after) = split_line(rest);
         let Some(call) = read_call(request) else {
-            let fault = Some(LineFault {
-                line,
-                expected: Expected::Request,
-            });
+            let fault = unread(line, Expected::Request);
             return Ok(Script { calls, fault });
         };
-        calls.push(call)?;
+        add(&mut calls, call)?;
         rest = after;
         line += 1;
     }
     Ok(Script { calls, fault: None })
+}
+
+fn add(calls: &mut Vec<Call>, call: Call) -> Result<(), AllocError>
+    ensures { OnOk result (calls.new.items ≡ calls.old.items ++ call ∷ []) }
+{
+    calls.push(call)?;
+    Ok(())
 }

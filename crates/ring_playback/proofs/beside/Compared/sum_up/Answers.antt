@@ -16,7 +16,7 @@ returns g c =
     let frames : List ℕ = listing_text (frames_of g.S.SaveStore c.args.self.ring) in
     on_ok_weaker c.write.result
     (λ wrote.
-      wrote
-      ∙ (λ i. before ++ (listed.0 i ++ (told i ++ 10 ∷ ended (counts_text (c.counts-counts.ensures.answers_the_four_counts i)))))
-      ∙ ap (λ (l : List ℕ). before ++ (frames ++ l)) (sym (append_assoc (agreement_text true) (10 ∷ []) last)))
+    wrote
+    ∙ (λ i. before ++ (listed.0 i ++ (told i ++ 10 ∷ ended (counts_text (c.counts-counts.ensures.answers_the_four_counts i)))))
+    ∙ ap (λ (l : List ℕ). before ++ (frames ++ l)) (sym (append_assoc (agreement_text true) (10 ∷ []) last)))
     c.write.ensures.bytes
