@@ -6,7 +6,7 @@ ghost use Rattle.script.specs.Texts.{expected_text, fault_text};
 use std::fmt;
 
 // What a line was to be.
-#[derive(Clone, Copy, Debug)]
+#[derive(Clone, Copy, Debug, PartialEq)]
 pub enum Expected {
     // The first line, which chooses a flat file.
     Setup,
@@ -16,7 +16,7 @@ pub enum Expected {
     Request,
 }
 
-#[derive(Clone, Copy, Debug)]
+#[derive(Clone, Copy, Debug, PartialEq)]
 pub struct LineFault {
     // Lines count from 1.
     pub line: u64,
