@@ -37,10 +37,9 @@ impl<S: SaveStore + Drop, P: SpillPolicy + Drop, F: RegisterFile + Drop> Compare
         let Script { calls, fault } = script;
         let mut text = String::new(heap);
         self.answer(&mut text, calls.as_slice())?;
-        if fault.is_some() {
-            return Ok(Playback { text, fault });
+        if fault.is_none() {
+            self.sum_up(heap, &mut text)?;
         }
-        self.sum_up(heap, &mut text)?;
         Ok(Playback { text, fault })
     }
 

@@ -22,7 +22,7 @@ use stores::stack::Stack;
 use stores::window::SavedWindow;
 use trace::setups::{PolicySetup, RingSetup, StoreSetup};
 
-// Why no line was played.
+// Why there is no playback.
 #[derive(Drop)]
 pub(crate) enum Unplayed {
     Refused(SetupFault),
