@@ -7,7 +7,7 @@ use frames::calls::perform;
 use frames::file::RegisterFile;
 use listing::texts::listing;
 use refusal::faults::SetupFault;
-use script::faults::{Expected, LineFault, unread};
+use script::faults::{Expected, LineFault};
 use script::scripts::Script;
 use std::alloc::{AllocError, Global};
 
@@ -25,7 +25,7 @@ pub fn unchosen(heap: Global, expected: Expected) -> Playback
 {
     Playback {
         text: String::new(heap),
-        fault: unread(1, expected),
+        fault: Some(LineFault::new(1, expected)),
     }
 }
 

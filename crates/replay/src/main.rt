@@ -24,9 +24,7 @@ enum Trouble {
 
 fn run(rt: &HostRuntime) -> Result<(), Trouble> {
     let mut trace = Vec::new(rt.alloc());
-    rt.stdin()
-        .read_to_end(&mut trace)
-        .map_err(Trouble::Input)?;
+    rt.stdin().read_to_end(&mut trace).map_err(Trouble::Input)?;
     let playback = replay(rt.alloc(), trace.as_slice())?;
     rt.write_all(playback.text.as_bytes())
         .map_err(Trouble::Output)?;

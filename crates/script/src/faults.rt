@@ -23,11 +23,13 @@ pub struct LineFault {
     pub expected: Expected,
 }
 
-// The line is none of the forms expected there.
-pub fn unread(line: u64, expected: Expected) -> Option<LineFault>
-    ensures names_the_line { result ≡ unread line expected }
-{
-    Some(LineFault { line, expected })
+impl LineFault {
+    // The line is none of the forms expected there.
+    pub fn new(line: u64, expected: Expected) -> Self
+        ensures names_the_line { Some result ≡ unread line expected }
+    {
+        Self { line, expected }
+    }
 }
 
 impl fmt::Display for Expected {

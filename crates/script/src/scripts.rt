@@ -3,7 +3,7 @@ ghost use Rattle.std.specs.Prelude.{◌≡◌, [], ◌∷◌, ◌++◌, IfOk, On
 ghost use Rattle.trace.specs.Lines.{lines};
 ghost use Rattle.script.specs.Scripts.{Scripted};
 
-use crate::faults::{Expected, LineFault, unread};
+use crate::faults::{Expected, LineFault};
 use frames::calls::Call;
 use std::alloc::{AllocError, Global};
 use trace::lines::split_line;
@@ -26,8 +26,11 @@ pub fn read_script(heap: Global, requests: &[u8]) -> Result<Script, AllocError>
     while !rest.is_empty() {
         let (request, after) = split_line(rest);
         let Some(call) = read_call(request) else {
-            let fault = unread(line, Expected::Request);
-            return Ok(Script { calls, fault });
+            let fault = LineFault::new(line, Expected::Request);
+            return Ok(Script {
+                calls,
+                fault: Some(fault),
+            });
         };
         add(&mut calls, call)?;
         rest = after;

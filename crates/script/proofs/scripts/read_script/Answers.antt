@@ -9,7 +9,7 @@ returns-in_default c =
     let some : 0 < length c.loop-rest.rest.now = omega (arith, false-eqb _ 0 c.loop-rest-test.ensures) in
     record {
       reads_the_calls_up_to_the_first_other_line =
-          no_call_here c.loop-rest.invariant c.split_line.result.0.now c.split_line.result.1.now parts.gives_the_first_line parts.gives_what_follows some c.in_default.ensures.reads_exactly_the_calls _ _ refl c.unread-fault.ensures.names_the_line;
+          no_call_here c.loop-rest.invariant c.split_line.result.0.now c.split_line.result.1.now parts.gives_the_first_line parts.gives_what_follows some c.in_default.ensures.reads_exactly_the_calls _ _ refl c.new-fault.ensures.names_the_line;
     }
 
 pub loop-rest-smaller : goal.loop-rest-smaller

@@ -30,14 +30,14 @@ returns g c =
     let moved = did.moves_as_the_calls_do ∙ ap (moves_by_all g.P.SpillPolicy m) is in
     let all : List ℕ = answers_text s c.args.script.calls.items in
     elim c.if-is_none.branch [
-      then-is_none+in_ok-sum_up w ↦ (
+      | then-is_none+in_ok-sum_up w ↦ (
         ap string_bytes w.text-is
-          ∙ w.in_ok-sum_up.ensures
-          ∙ (λ k. answers k ++ summary_text (left k) (moved k).numbers.counts)
-          ∙ ap (λ (l : List ℕ). all ++ l) (closes c.args.script.fault _ w.if-is_none.ensures),
+            ∙ w.in_ok-sum_up.ensures
+            ∙ (λ k. answers k ++ summary_text (left k) (moved k).numbers.counts)
+            ∙ ap (λ (l : List ℕ). all ++ l) (closes c.args.script.fault _ w.if-is_none.ensures),
         refl,
       )
-    | else-is_none w ↦ (
+      | else-is_none w ↦ (
         ap string_bytes w.text-is ∙ answers ∙ sym (append-nil all) ∙ ap (λ (l : List ℕ). all ++ l) (breaks_off c.args.script.fault _ w.if-is_none.ensures),
         refl,
       )
