@@ -1,2 +1,2 @@
-mod Once
-mod Turns
+pub mod First
+pub mod Flats

@@ -1,2 +1,3 @@
+pub mod Flats
 pub mod Playing
-pub mod Texts
+pub mod Replaying

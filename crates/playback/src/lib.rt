@@ -1,5 +1,5 @@
 // A trace replayed on a register file: what is printed, and the line that could not be read.
 #![tactic(auto)]
 
-pub mod faults;
+pub mod playing;
 pub mod replaying;

@@ -1,43 +1,33 @@
 // Replays the trace on standard input, and prints each answer and the frames that are left.
 #![tactic(auto)]
 
-use playback::faults::LineFault;
 use playback::replaying::replay;
+use script::faults::LineFault;
+use std::alloc::AllocError;
+use std::io;
 use std::io::Read;
 use std::process::ExitCode;
-use std::{fmt, io};
+use thiserror::Error;
 
 // Why a run ended early.
-#[derive(Drop)]
+#[derive(Debug, Drop, Error)]
 enum Trouble {
+    #[error("standard input cannot be read: {0}")]
     Input(io::Error),
+    #[error("standard output cannot be written: {0}")]
     Output(io::Error),
-    Memory,
+    #[error("out of memory")]
+    Memory(#[from] AllocError),
+    #[error("{0}")]
     Line(LineFault),
-}
-
-impl fmt::Display for Trouble {
-    fn fmt<W: fmt::Write>(&self, f: &mut fmt::Formatter<W>) -> fmt::Result {
-        match self {
-            Trouble::Input(e) => write!(f, "standard input cannot be read: {e}"),
-            Trouble::Output(e) => write!(f, "standard output cannot be written: {e}"),
-            Trouble::Memory => write!(f, "out of memory"),
-            Trouble::Line(fault) => write!(f, "{fault}"),
-        }
-    }
 }
 
 fn run(rt: &HostRuntime) -> Result<(), Trouble> {
     let mut trace = Vec::new(rt.alloc());
-    if let Err(e) = rt.stdin().read_to_end(&mut trace) {
-        return Err(Trouble::Input(e));
-    }
-    let Ok(playback) = replay(rt.alloc(), trace.as_slice()) else {
-        return Err(Trouble::Memory);
-    };
-    if let Err(e) = rt.write_all(playback.text.as_bytes()) {
-        return Err(Trouble::Output(e));
-    }
+    rt.stdin().read_to_end(&mut trace).map_err(Trouble::Input)?;
+    let playback = replay(rt.alloc(), trace.as_slice())?;
+    rt.write_all(playback.text.as_bytes())
+        .map_err(Trouble::Output)?;
     match playback.fault {
         Some(fault) => Err(Trouble::Line(fault)),
         None => Ok(()),

@@ -1,4 +1,2 @@
-mod Both
-mod Once
-mod Ringing
-mod Turns
+mod Policies
+mod Traces

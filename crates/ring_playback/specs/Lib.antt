@@ -1,3 +1,3 @@
 pub mod Beside
-pub mod Flats
 pub mod Replays
+pub mod Rings

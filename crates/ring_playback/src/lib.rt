@@ -2,6 +2,5 @@
 #![tactic(auto)]
 
 mod beside;
-mod flats;
 pub mod replaying;
 mod rings;

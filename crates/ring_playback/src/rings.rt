@@ -2,16 +2,18 @@
 ghost use Rattle.std.specs.Prelude.{◌≡◌, IfOk, string_bytes};
 ghost use Rattle.trace.specs.declared.setups.Setup.TheVariants.{Ring};
 ghost use Rattle.trace.specs.Lines.{lines};
-ghost use Rattle.ring_playback.specs.Beside.{PolicyOutcome, StoreOutcome, ring_capacity, room_of};
+ghost use Rattle.playback.specs.Flats.{capacity_fault};
+ghost use Rattle.ring_playback.specs.declared.rings.Unplayed.TheVariants as unplayed;
 ghost use Rattle.ring_playback.specs.Replays.{Outcome};
+ghost use Rattle.ring_playback.specs.Rings.{PlayedRing, PlayedWith, Tried, ring_capacity, ring_fault, room_of};
 
-use crate::beside::play_on_both;
+use crate::beside::Compared;
 use frames::flat::FlatFile;
-use playback::replaying::Playback;
-use playing::playing::refused;
+use playback::playing::{Playback, refused};
 use policies::adaptive::Adaptive;
 use policies::fixed::Fixed;
 use policies::policy::SpillPolicy;
+use refusal::faults::SetupFault;
 use ring::ring::WindowRing;
 use ring::window_count::WindowCount;
 use script::scripts::read_script;
@@ -19,6 +21,29 @@ use std::alloc::{AllocError, Global};
 use stores::stack::Stack;
 use stores::window::SavedWindow;
 use trace::setups::{PolicySetup, RingSetup, StoreSetup};
+
+// Why there is no playback.
+#[derive(Drop)]
+pub(crate) enum Unplayed {
+    Refused(SetupFault),
+    OutOfMemory,
+}
+
+impl From<SetupFault> for Unplayed {
+    ghost from_gives = { λ fault e. e ≡ unplayed.Refused fault };
+
+    fn from(fault: SetupFault) -> Unplayed {
+        Unplayed::Refused(fault)
+    }
+}
+
+impl From<AllocError> for Unplayed {
+    ghost from_gives = { λ _ e. e ≡ unplayed.OutOfMemory };
+
+    fn from(_: AllocError) -> Unplayed {
+        Unplayed::OutOfMemory
+    }
+}
 
 // Replays on a ring, unless one of its numbers is refused.
 pub(crate) fn replay_ring(
@@ -28,75 +53,56 @@ pub(crate) fn replay_ring(
 ) -> Result<Playback, AllocError>
     ensures { IfOk result (λ p. Outcome (Ring setup) (lines requests.now) (string_bytes p.text) p.fault) }
 {
-    match WindowCount::new(setup.windows) {
-        Ok(windows) => choose_policy(heap, windows, setup, requests),
-        Err(fault) => refused(heap, fault),
+    match play_ring(heap, setup, requests) {
+        Ok(playback) => Ok(playback),
+        Err(Unplayed::Refused(fault)) => refused(heap, fault),
+        Err(Unplayed::OutOfMemory) => Err(AllocError),
     }
 }
 
-fn choose_policy(
-    heap: Global,
-    windows: WindowCount,
-    setup: RingSetup,
-    requests: &[u8],
-) -> Result<Playback, AllocError>
-    ensures { IfOk result (λ p. PolicyOutcome setup.policy windows.count (room_of setup.store) (lines requests.now) (string_bytes p.text) p.fault) }
+#[tactic(auto, using(crate::proofs::Policies::with_fixed, crate::proofs::Policies::with_adaptive))]
+fn play_ring(heap: Global, setup: RingSetup, requests: &[u8]) -> Result<Playback, Unplayed>
+    ensures { Tried (ring_fault setup) (PlayedWith setup.policy setup.windows (room_of setup.store) (lines requests.now)) result }
 {
+    let windows = WindowCount::new(setup.windows)?;
+    let room = room_of(setup.store);
     match setup.policy {
-        PolicySetup::Fixed(spill, fill) => match Fixed::new(spill, fill) {
-            Ok(policy) => choose_store(heap, windows, policy, setup.store, requests),
-            Err(fault) => refused(heap, fault),
-        },
-        PolicySetup::Adaptive => choose_store(
-            heap,
-            windows,
-            Adaptive::new(),
-            setup.store,
-            requests,
-        ),
+        PolicySetup::Fixed(spill, fill) => {
+            play_with(heap, windows, Fixed::new(spill, fill)?, room, requests)
+        }
+        PolicySetup::Adaptive => play_with(heap, windows, Adaptive::new(), room, requests),
     }
 }
 
 fn room_of(store: StoreSetup) -> u32
     ensures { result ≡ room_of store }
 {
-    match store {
-        StoreSetup::Flat(room) => room,
-    }
-}
-
-fn capacity_of(windows: WindowCount, room: u32) -> u32
-    ensures { result ≡ ring_capacity windows.count room }
-{
-    windows.most_resident().saturating_add(room)
+    let StoreSetup::Flat(room) = store;
+    room
 }
 
 // The flat file beside a ring has the ring's capacity, and may be refused.
-fn choose_store<P: SpillPolicy + Drop>(
+fn play_with<P: SpillPolicy + Drop>(
     heap: Global,
     windows: WindowCount,
     policy: P,
-    store: StoreSetup,
+    room: u32,
     requests: &[u8],
-) -> Result<Playback, AllocError>
-    ensures { IfOk result (λ p. StoreOutcome P.SpillPolicy policy windows.count (room_of store) (lines requests.now) (string_bytes p.text) p.fault) }
+) -> Result<Playback, Unplayed>
+    ensures { Tried (capacity_fault (ring_capacity windows.count room)) (PlayedRing P.SpillPolicy policy windows.count room (lines requests.now)) result }
 {
-    let room = room_of(store);
-    match FlatFile::new(capacity_of(windows, room)) {
-        Ok(beside) => {
-            let script = read_script(heap, requests)?;
-            let mut table = [SavedWindow {
-                locals: [0; 8],
-                ins: [0; 8],
-            }; 256];
-            let mut saved = Stack::new(&mut table[0..room as usize]);
-            play_on_both(
-                heap,
-                WindowRing::new(windows, &mut saved, policy),
-                beside,
-                script,
-            )
-        }
-        Err(fault) => refused(heap, fault),
-    }
+    let beside = FlatFile::new(windows.most_resident().saturating_add(room))?;
+    let script = read_script(heap, requests)?;
+    let empty = SavedWindow {
+        locals: [0; 8],
+        ins: [0; 8],
+    };
+    let mut table = vec![in heap; empty; room as usize]?;
+    let mut saved = Stack::new(table.as_mut_slice());
+    let both = Compared {
+        ring: WindowRing::new(windows, &mut saved, policy),
+        beside,
+        agrees: true,
+    };
+    Ok(both.play(heap, script)?)
 }

@@ -2,9 +2,8 @@
 use Rattle.std.proofs.Common.{◌≡◌, ℕ, List, ◌∷◌, Some, Option, sym, refl, ◌∙◌}
 use Rattle.frames.specs.declared.calls.Call.{Call}
 use Rattle.trace.proofs.OneCall.{same_call}
-use Rattle.playback.specs.declared.faults.LineFault.{LineFault}
-use Rattle.playback.specs.Playing.{CallLine}
-use Rattle.script.specs.Scripts.{Scripted, no_more, no_call, one_more}
+use Rattle.script.specs.declared.faults.LineFault.{LineFault}
+use Rattle.script.specs.Scripts.{CallLine, Scripted, no_more, no_call, one_more}
 
 one_call : (l : List ℕ) (c d : Call) → CallLine l (Some c) → CallLine l (Some d) → c ≡ d
 one_call l c d h k = same_call c d h.0 k.0 (sym h.1 ∙ k.1)

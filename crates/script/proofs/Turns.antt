@@ -4,10 +4,9 @@ use Rattle.std.proofs.lemmas.List.{nil_from_length}
 use Rattle.frames.specs.declared.calls.Call.{Call}
 use Rattle.trace.specs.Lines.{lines, first_line, after_line}
 use Rattle.trace.proofs.LineLaws.{lines_are, after_shorter}
-use Rattle.playback.specs.declared.faults.Expected.TheVariants.{Request}
-use Rattle.playback.specs.declared.faults.LineFault.{LineFault}
-use Rattle.playback.specs.Playing.{unread, CallLine}
-use Rattle.script.specs.Scripts.{Scripted, no_more, no_call, one_more}
+use Rattle.script.specs.declared.faults.Expected.TheVariants.{Request}
+use Rattle.script.specs.declared.faults.LineFault.{LineFault}
+use Rattle.script.specs.Scripts.{unread, CallLine, Scripted, no_more, no_call, one_more}
 
 -- at line k, rest is to come: the calls that it asks for go after those read
 pub record Sofar (first : ℕ) (all : List ℕ) (k : ℕ) (rest : List ℕ) (read : List Call) : Type 0 where

@@ -1,12 +1,10 @@
 // The lines of a trace after the first, each read as a call.
 ghost use Rattle.std.specs.Prelude.{◌≡◌, [], ◌∷◌, ◌++◌, IfOk, OnOk};
 ghost use Rattle.trace.specs.Lines.{lines};
-ghost use Rattle.playback.specs.declared.faults.Expected.TheVariants.{Request};
-ghost use Rattle.playback.specs.Playing.{unread};
 ghost use Rattle.script.specs.Scripts.{Scripted};
 
+use crate::faults::{Expected, LineFault};
 use frames::calls::Call;
-use playback::faults::{Expected, LineFault};
 use std::alloc::{AllocError, Global};
 use trace::lines::split_line;
 use trace::requests::read_call;
@@ -28,7 +26,11 @@ pub fn read_script(heap: Global, requests: &[u8]) -> Result<Script, AllocError>
     while !rest.is_empty() {
         let (request, after) = split_line(rest);
         let Some(call) = read_call(request) else {
-            return Ok(broken_off(calls, line));
+            let fault = LineFault::new(line, Expected::Request);
+            return Ok(Script {
+                calls,
+                fault: Some(fault),
+            });
         };
         add(&mut calls, call)?;
         rest = after;
@@ -42,17 +44,4 @@ fn add(calls: &mut Vec<Call>, call: Call) -> Result<(), AllocError>
 {
     calls.push(call)?;
     Ok(())
-}
-
-// The line is no call.
-fn broken_off(calls: Vec<Call>, line: u64) -> Script
-    ensures keeps_the_calls { result.calls ≡ calls }
-    ensures names_the_line { result.fault ≡ unread line Request }
-{
-    let expected = Expected::Request;
-    let fault = LineFault { line, expected };
-    Script {
-        calls,
-        fault: Some(fault),
-    }
 }

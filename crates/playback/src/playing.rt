@@ -1,0 +1,60 @@
+// The calls of a script, made on any register file.
+ghost use Rattle.std.specs.Prelude.{◌≡◌, [], IfOk, string_bytes};
+ghost use Rattle.script.specs.Scripts.{unread};
+ghost use Rattle.playback.specs.Playing.{Refused, played_text};
+
+use frames::calls::perform;
+use frames::file::RegisterFile;
+use listing::texts::listing;
+use refusal::faults::SetupFault;
+use script::faults::{Expected, LineFault};
+use script::scripts::Script;
+use std::alloc::{AllocError, Global};
+
+// The text to print, and the line at which the replay broke off, if it did.
+#[derive(Drop)]
+pub struct Playback {
+    pub text: String,
+    pub fault: Option<LineFault>,
+}
+
+// The first line chooses no file.
+pub fn unchosen(heap: Global, expected: Expected) -> Playback
+    ensures prints_nothing { string_bytes result.text ≡ [] }
+    ensures names_the_first_line { result.fault ≡ unread 1 expected }
+{
+    Playback {
+        text: String::new(heap),
+        fault: Some(LineFault::new(1, expected)),
+    }
+}
+
+// Where there is no file, its refusal is all that is printed.
+pub fn refused(heap: Global, fault: SetupFault) -> Result<Playback, AllocError>
+    ensures prints_the_refusal { IfOk result (λ p. Refused fault (string_bytes p.text) p.fault) }
+{
+    let refusal = fault.refusal();
+    let text = format!(in heap; "{refusal}\n")?;
+    Ok(Playback { text, fault: None })
+}
+
+// Makes the calls of a script on any file, and lists the frames that are left, unless a line ended it.
+pub fn play<F: RegisterFile + Drop>(
+    heap: Global,
+    mut file: F,
+    script: Script,
+) -> Result<Playback, AllocError>
+    ensures plays_the_script { IfOk result (λ p. (string_bytes p.text ≡ played_text (F.RegisterFile.state file) script.calls.items script.fault) × (p.fault ≡ script.fault)) }
+{
+    let Script { calls, fault } = script;
+    let mut text = String::new(heap);
+    for call in &calls {
+        let answer = perform(&mut file, *call);
+        writeln!(text, "{answer}")?;
+    }
+    if fault.is_none() {
+        let frames = listing(heap, file)?;
+        text.push_str(frames.as_str())?;
+    }
+    Ok(Playback { text, fault })
+}

@@ -1,4 +1,0 @@
-// A script played on a register file.
-#![tactic(auto)]
-
-pub mod playing;
