@@ -1,3 +1,4 @@
 pub mod Flats
 pub mod Playing
+pub mod LineByLine
 pub mod Replaying

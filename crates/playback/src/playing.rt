@@ -1,12 +1,14 @@
 // The calls of a script, made on any register file.
-ghost use Rattle.std.specs.Prelude.{◌≡◌, [], IfOk, string_bytes};
+ghost use Rattle.std.specs.Prelude.{◌≡◌, [], ◌++◌, IfOk, string_bytes, OnOk};
+ghost use Rattle.frames.specs.Texts.{answer_text};
 ghost use Rattle.script.specs.Scripts.{unread};
-ghost use Rattle.playback.specs.Playing.{Refused, played_text};
+ghost use Rattle.playback.specs.Playing.{Refused, ended, played_text};
 
-use frames::calls::perform;
+use frames::calls::{Answer, perform};
 use frames::file::RegisterFile;
 use listing::texts::listing;
 use refusal::faults::SetupFault;
+use refusal::refusals::Refusal;
 use script::faults::{Expected, LineFault};
 use script::scripts::Script;
 use std::alloc::{AllocError, Global};
@@ -33,9 +35,22 @@ pub fn unchosen(heap: Global, expected: Expected) -> Playback
 pub fn refused(heap: Global, fault: SetupFault) -> Result<Playback, AllocError>
     ensures prints_the_refusal { IfOk result (λ p. Refused fault (string_bytes p.text) p.fault) }
 {
-    let refusal = fault.refusal();
+    let refusal = Refusal::from(fault);
     let text = format!(in heap; "{refusal}\n")?;
     Ok(Playback { text, fault: None })
+}
+
+// Adds an answer on a line.
+pub fn write_answer(text: &mut String, answer: Answer) -> Result<(), AllocError>
+    ensures adds_its_line { OnOk result (string_bytes text.new ≡ string_bytes text.old ++ ended (answer_text answer)) }
+{
+    match answer {
+        Ok(reply) => writeln!(text, "{reply}"),
+        Err(fault) => {
+            let refusal = Refusal::from(fault);
+            writeln!(text, "{refusal}")
+        }
+    }
 }
 
 // Makes the calls of a script on any file, and lists the frames that are left, unless a line ended it.
@@ -49,8 +64,7 @@ pub fn play<F: RegisterFile + Drop>(
     let Script { calls, fault } = script;
     let mut text = String::new(heap);
     for call in &calls {
-        let answer = perform(&mut file, *call);
-        writeln!(text, "{answer}")?;
+        write_answer(&mut text, perform(&mut file, *call))?;
     }
     if fault.is_none() {
         let frames = listing(heap, file)?;

@@ -2,6 +2,7 @@
 ghost use Rattle.std.specs.Prelude.{IfOk, string_bytes};
 ghost use Rattle.trace.specs.Lines.{lines};
 ghost use Rattle.playback.specs.Flats.{FlatOutcome};
+ghost use Rattle.playback.specs.LineByLine.{PlaysLineByLine};
 ghost use Rattle.playback.specs.Replaying.{Replays, OneOutcome};
 
 use crate::playing::{Playback, play, refused, unchosen};
@@ -13,10 +14,11 @@ use trace::lines::split_line;
 use trace::requests::read_flat;
 
 // Replays a whole trace on the file that its first line chooses. Only when memory runs out is left open.
-#[tactic(auto, using(crate::proofs::Flats::one_flat_outcome, crate::proofs::Flats::no_flat, crate::proofs::Flats::some_flat))]
+#[tactic(auto, using(crate::proofs::Flats::one_flat_outcome, crate::proofs::Flats::no_flat, crate::proofs::Flats::some_flat, crate::proofs::LineByLine::plays_line_by_line))]
 pub fn replay(heap: Global, trace: &[u8]) -> Result<Playback, AllocError>
     ensures replays_every_line { IfOk result (λ p. Replays (lines trace.now) (string_bytes p.text) p.fault) }
     ensures no_trace_has_two_outcomes { OneOutcome Replays }
+    ensures scripts_play_line_by_line { PlaysLineByLine }
 {
     let (setup, requests) = split_line(trace);
     match read_flat(setup) {

@@ -1,9 +1,9 @@
-use Rattle.std.proofs.Common.{length, vec_items}
+use Rattle.std.proofs.Common.{vec_items}
+use Rattle.trace.specs.Lines.{lines}
+use Rattle.trace.specs.Numbered.{lines_left, next_number}
 use Rattle.script.proofs.Turns.{Sofar}
 use Rattle.script.proofs.scripts.read_script.Given as goal
 
-abbrev pub invariant-loop-rest : goal.invariant-loop-rest
-invariant-loop-rest l = Sofar 2 l.requests l.line l.rest (vec_items l.calls)
-
-abbrev pub decreases-loop-rest : goal.decreases-loop-rest
-decreases-loop-rest l = length l.rest
+abbrev pub invariant-loop-line : goal.invariant-loop-line
+invariant-loop-line l =
+    Sofar 2 (lines l.requests) (next_number l.line-iterator) (lines_left l.line-iterator) (vec_items l.calls)
