@@ -4,8 +4,8 @@ use Rattle.std.proofs.lemmas.Bool.{cond-true}
 use Rattle.refusal.specs.declared.faults.SetupFault.{SetupFault}
 use Rattle.policies.specs.declared.adaptive.Adaptive.{Adaptive}
 use Rattle.policies.specs.declared.fixed.Fixed.{Fixed}
-use Rattle.policies.specs.contracts.adaptive.rule.AdaptiveSpillPolicy.TheImpl.{ghosts as adaptive_policy}
-use Rattle.policies.specs.contracts.fixed.rule.FixedSpillPolicy.TheImpl.{ghosts as fixed_policy}
+use Rattle.policies.specs.contracts.adaptive.AdaptiveSpillPolicy.TheImpl.{ghosts as adaptive_policy}
+use Rattle.policies.specs.contracts.fixed.FixedSpillPolicy.TheImpl.{ghosts as fixed_policy}
 use Rattle.policies.specs.Fixed.{IsFixed, fixed_fault}
 use Rattle.ring.specs.WindowCounts.{is_window_count}
 use Rattle.trace.specs.declared.setups.PolicySetup.{PolicySetup}

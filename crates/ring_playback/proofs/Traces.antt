@@ -2,8 +2,8 @@
 use Rattle.std.proofs.Common.{◌≡◌, ℕ, List, [], length, Some, None, Option, sym, ap, ◌∙◌, subst, arith}
 use Rattle.frames.specs.Frames.{fresh}
 use Rattle.policies.specs.declared.policy.SpillPolicy.{Ghosts as Policy}
-use Rattle.policies.specs.contracts.adaptive.rule.AdaptiveSpillPolicy.TheImpl.{ghosts as adaptive_policy}
-use Rattle.policies.specs.contracts.fixed.rule.FixedSpillPolicy.TheImpl.{ghosts as fixed_policy}
+use Rattle.policies.specs.contracts.adaptive.AdaptiveSpillPolicy.TheImpl.{ghosts as adaptive_policy}
+use Rattle.policies.specs.contracts.fixed.FixedSpillPolicy.TheImpl.{ghosts as fixed_policy}
 use Rattle.policies.proofs.Same.{same_adaptive, same_fixed}
 use Rattle.trace.specs.declared.setups.PolicySetup.{PolicySetup}
 use Rattle.trace.specs.declared.setups.PolicySetup.TheVariants.{Fixed, Adaptive}

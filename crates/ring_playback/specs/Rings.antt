@@ -7,8 +7,8 @@ use Rattle.frames.specs.Frames.{fresh}
 use Rattle.policies.specs.declared.adaptive.Adaptive.{Adaptive}
 use Rattle.policies.specs.declared.fixed.Fixed.{Fixed}
 use Rattle.policies.specs.declared.policy.SpillPolicy.{Ghosts as Policy}
-use Rattle.policies.specs.contracts.adaptive.rule.AdaptiveSpillPolicy.TheImpl.{ghosts as adaptive_policy}
-use Rattle.policies.specs.contracts.fixed.rule.FixedSpillPolicy.TheImpl.{ghosts as fixed_policy}
+use Rattle.policies.specs.contracts.adaptive.AdaptiveSpillPolicy.TheImpl.{ghosts as adaptive_policy}
+use Rattle.policies.specs.contracts.fixed.FixedSpillPolicy.TheImpl.{ghosts as fixed_policy}
 use Rattle.policies.specs.Fixed.{IsFixed, fixed_fault}
 use Rattle.ring.specs.declared.counts.Counts.{Counts}
 use Rattle.ring.specs.Cycle.{most_resident}

@@ -10,9 +10,8 @@ ghost use Rattle.ring_playback.specs.Beside.{ScriptTold, agreement_text, summary
 use frames::calls::{Answer, Call, perform};
 use frames::file::RegisterFile;
 use listing::texts::listing;
-use playback::playing::Playback;
+use playback::playing::{Playback, write_answer};
 use policies::policy::SpillPolicy;
-use ring::calls::perform_on_ring;
 use ring::ring::WindowRing;
 use script::scripts::Script;
 use std::alloc::{AllocError, Global};
@@ -50,8 +49,7 @@ impl<S: SaveStore + Drop, P: SpillPolicy + Drop, F: RegisterFile + Drop> Compare
         ensures moves_as_the_calls_do { OnOk result (moving S.SaveStore self.new.ring ≡ moves_by_all P.SpillPolicy (moving S.SaveStore self.old.ring) calls.now) }
     {
         for call in calls {
-            let answer = self.perform(*call);
-            writeln!(text, "{answer}")?;
+            write_answer(text, self.perform(*call))?;
         }
         Ok(())
     }
@@ -62,7 +60,7 @@ impl<S: SaveStore + Drop, P: SpillPolicy + Drop, F: RegisterFile + Drop> Compare
         ensures holds_the_frames_after { frames_of S.SaveStore self.new.ring ≡ after_call (frames_of S.SaveStore self.old.ring) call }
         ensures moves_as_the_call_does { moving S.SaveStore self.new.ring ≡ moves_by P.SpillPolicy (moving S.SaveStore self.old.ring) call }
     {
-        let answer = perform_on_ring(&mut self.ring, call);
+        let answer = perform(&mut self.ring, call);
         let expected = perform(&mut self.beside, call);
         self.agrees = self.agrees && answer == expected;
         answer

@@ -64,7 +64,7 @@ pub(crate) fn replay_ring(
 fn play_ring(heap: Global, setup: RingSetup, requests: &[u8]) -> Result<Playback, Unplayed>
     ensures { Tried (ring_fault setup) (PlayedWith setup.policy setup.windows (room_of setup.store) (lines requests.now)) result }
 {
-    let windows = WindowCount::new(setup.windows)?;
+    let windows = WindowCount::try_from(setup.windows)?;
     let room = room_of(setup.store);
     match setup.policy {
         PolicySetup::Fixed(spill, fill) => {
