@@ -25,7 +25,7 @@ impl FlatFile {
     pub fn new(capacity: u32) -> Result<FlatFile, SetupFault>
         ensures makes_a_fresh_file_or_refuses { MakesFlatFile capacity result }
     {
-        if capacity < 1 || capacity > 256 {
+        if !(1..=256).contains(&capacity) {
             return Err(SetupFault::FlatCapacity(capacity));
         }
         Ok(FlatFile {

@@ -19,10 +19,11 @@ impl TryFrom<u32> for Register {
     ghost try_from_gives = { λ n r. MakesRegister n r };
 
     fn try_from(number: u32) -> Result<Register, FileFault> {
-        if number < 8 || number > 31 {
-            return Err(FileFault::NoSuchRegister(number));
+        if (8..=31).contains(&number) {
+            Ok(Register { number })
+        } else {
+            Err(FileFault::NoSuchRegister(number))
         }
-        Ok(Register { number })
     }
 }
 

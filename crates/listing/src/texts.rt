@@ -8,13 +8,13 @@ use std::alloc::{AllocError, Global};
 use std::fmt;
 
 // A line for each frame, oldest first, and one for the outs of the newest. Only when memory runs out is left open.
-pub fn listing<F: RegisterFile + Drop>(heap: Global, file: F) -> Result<String, AllocError>
+pub fn listing<F: RegisterFile + Drop>(alloc: Global, file: F) -> Result<String, AllocError>
     ensures lists_every_frame_and_the_outs { IfOk result (λ t. string_bytes t ≡ listing_text (F.RegisterFile.state file)) }
 {
     // Unwinding changes the outs, so they are read before.
     let outs = outs(&file);
-    let frames = unwind(heap, file)?;
-    let mut text = String::new(heap);
+    let frames = unwind(alloc, file)?;
+    let mut text = String::new(alloc);
     for (i, frame) in frames.iter().rev().enumerate() {
         let number = i + 1;
         let ins = Words(&frame.ins);

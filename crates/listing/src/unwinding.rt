@@ -10,10 +10,10 @@ use std::array;
 
 // Every frame of the file, newest first. Only when memory runs out is left open.
 #[tactic(auto, using(crate::proofs::Unwound::falls, crate::proofs::Unwound::one_moved, crate::proofs::Unwound::newest_first, crate::proofs::Unwound::end))]
-pub fn unwind<F: RegisterFile + Drop>(heap: Global, mut file: F) -> Result<Vec<Frame>, AllocError>
+pub fn unwind<F: RegisterFile + Drop>(alloc: Global, mut file: F) -> Result<Vec<Frame>, AllocError>
     ensures gives_every_frame { IfOk result (λ v. v.items ≡ reverse (all_frames (F.RegisterFile.state file))) }
 {
-    let mut frames = vec![in heap; newest(&file)]?;
+    let mut frames = vec![in alloc; newest(&file)]?;
     // Only the oldest frame cannot be closed.
     while file.restore().is_ok() {
         frames.push(newest(&file))?;

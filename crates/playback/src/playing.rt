@@ -21,22 +21,22 @@ pub struct Playback {
 }
 
 // The first line chooses no file.
-pub fn unchosen(heap: Global, expected: Expected) -> Playback
+pub fn unchosen(alloc: Global, expected: Expected) -> Playback
     ensures prints_nothing { string_bytes result.text ≡ [] }
     ensures names_the_first_line { result.fault ≡ unread 1 expected }
 {
     Playback {
-        text: String::new(heap),
+        text: String::new(alloc),
         fault: Some(LineFault::new(1, expected)),
     }
 }
 
 // Where there is no file, its refusal is all that is printed.
-pub fn refused(heap: Global, fault: SetupFault) -> Result<Playback, AllocError>
+pub fn refused(alloc: Global, fault: SetupFault) -> Result<Playback, AllocError>
     ensures prints_the_refusal { IfOk result (λ p. Refused fault (string_bytes p.text) p.fault) }
 {
     let refusal = Refusal::from(fault);
-    let text = format!(in heap; "{refusal}\n")?;
+    let text = format!(in alloc; "{refusal}\n")?;
     Ok(Playback { text, fault: None })
 }
 
@@ -55,19 +55,19 @@ pub fn write_answer(text: &mut String, answer: Answer) -> Result<(), AllocError>
 
 // Makes the calls of a script on any file, and lists the frames that are left, unless a line ended it.
 pub fn play<F: RegisterFile + Drop>(
-    heap: Global,
+    alloc: Global,
     mut file: F,
     script: Script,
 ) -> Result<Playback, AllocError>
     ensures plays_the_script { IfOk result (λ p. (string_bytes p.text ≡ played_text (F.RegisterFile.state file) script.calls.items script.fault) × (p.fault ≡ script.fault)) }
 {
     let Script { calls, fault } = script;
-    let mut text = String::new(heap);
+    let mut text = String::new(alloc);
     for call in &calls {
         write_answer(&mut text, perform(&mut file, *call))?;
     }
     if fault.is_none() {
-        let frames = listing(heap, file)?;
+        let frames = listing(alloc, file)?;
         text.push_str(frames.as_str())?;
     }
     Ok(Playback { text, fault })

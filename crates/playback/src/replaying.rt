@@ -15,24 +15,24 @@ use trace::requests::read_flat;
 
 // Replays a whole trace on the file that its first line chooses. Only when memory runs out is left open.
 #[tactic(auto, using(crate::proofs::Flats::one_flat_outcome, crate::proofs::Flats::no_flat, crate::proofs::Flats::some_flat, crate::proofs::LineByLine::plays_line_by_line))]
-pub fn replay(heap: Global, trace: &[u8]) -> Result<Playback, AllocError>
+pub fn replay(alloc: Global, trace: &[u8]) -> Result<Playback, AllocError>
     ensures replays_every_line { IfOk result (λ p. Replays (lines trace.now) (string_bytes p.text) p.fault) }
     ensures no_trace_has_two_outcomes { OneOutcome Replays }
     ensures scripts_play_line_by_line { PlaysLineByLine }
 {
     let (setup, requests) = split_line(trace);
     match read_flat(setup) {
-        Some(capacity) => replay_flat(heap, capacity, requests),
-        None => Ok(unchosen(heap, Expected::Setup)),
+        Some(capacity) => replay_flat(alloc, capacity, requests),
+        None => Ok(unchosen(alloc, Expected::Setup)),
     }
 }
 
 // The file is made first: where it is refused, no other line is looked at.
-pub fn replay_flat(heap: Global, capacity: u32, requests: &[u8]) -> Result<Playback, AllocError>
+pub fn replay_flat(alloc: Global, capacity: u32, requests: &[u8]) -> Result<Playback, AllocError>
     ensures plays_every_line_or_refuses { IfOk result (λ p. FlatOutcome capacity (lines requests.now) (string_bytes p.text) p.fault) }
 {
     match FlatFile::new(capacity) {
-        Ok(file) => play(heap, file, read_script(heap, requests)?),
-        Err(fault) => refused(heap, fault),
+        Ok(file) => play(alloc, file, read_script(alloc, requests)?),
+        Err(fault) => refused(alloc, fault),
     }
 }

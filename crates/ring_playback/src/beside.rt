@@ -30,14 +30,14 @@ pub(crate) struct Compared<S: SaveStore, P: SpillPolicy, F: RegisterFile> {
 
 impl<S: SaveStore + Drop, P: SpillPolicy + Drop, F: RegisterFile + Drop> Compared<S, P, F> {
     // Makes the calls of a script on both, and sums up, unless a line ended it.
-    pub(crate) fn play(mut self, heap: Global, script: Script) -> Result<Playback, AllocError>
+    pub(crate) fn play(mut self, alloc: Global, script: Script) -> Result<Playback, AllocError>
         ensures { IfOk result (λ p. ScriptTold S.SaveStore P.SpillPolicy self.ring script.calls.items script.fault (string_bytes p.text) p.fault) }
     {
         let Script { calls, fault } = script;
-        let mut text = String::new(heap);
+        let mut text = String::new(alloc);
         self.answer(&mut text, calls.as_slice())?;
         if fault.is_none() {
-            self.sum_up(heap, &mut text)?;
+            self.sum_up(alloc, &mut text)?;
         }
         Ok(Playback { text, fault })
     }
@@ -67,18 +67,18 @@ impl<S: SaveStore + Drop, P: SpillPolicy + Drop, F: RegisterFile + Drop> Compare
     }
 
     // Adds the ring's frames, whether the file beside it agrees to the end, and the counts.
-    fn sum_up(self, heap: Global, text: &mut String) -> Result<(), AllocError>
+    fn sum_up(self, alloc: Global, text: &mut String) -> Result<(), AllocError>
         ensures { OnOk result (string_bytes text.new ≡ string_bytes text.old ++ summary_text (frames_of S.SaveStore self.ring) (moving S.SaveStore self.ring).numbers.counts) }
     {
         // Listing unwinds the ring, which would count.
         let counts = self.ring.counts();
-        let (frames, agrees) = self.list(heap)?;
+        let (frames, agrees) = self.list(alloc)?;
         let agreement = agreement(agrees);
         write!(text, "{frames}{agreement}\n{counts}\n")
     }
 
     // The ring's frames, and whether the file beside it was left with the same.
-    fn list(self, heap: Global) -> Result<(String, bool), AllocError>
+    fn list(self, alloc: Global) -> Result<(String, bool), AllocError>
         ensures { IfOk result (λ listed. (string_bytes listed.0 ≡ listing_text (frames_of S.SaveStore self.ring)) × (listed.1 ≡ true)) }
     {
         let Compared {
@@ -86,8 +86,8 @@ impl<S: SaveStore + Drop, P: SpillPolicy + Drop, F: RegisterFile + Drop> Compare
             beside,
             agrees,
         } = self;
-        let frames = listing(heap, ring)?;
-        let expected = listing(heap, beside)?;
+        let frames = listing(alloc, ring)?;
+        let expected = listing(alloc, beside)?;
         let same = frames == expected;
         Ok((frames, agrees && same))
     }

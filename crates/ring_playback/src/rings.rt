@@ -47,30 +47,30 @@ impl From<AllocError> for Unplayed {
 
 // Replays on a ring, unless one of its numbers is refused.
 pub(crate) fn replay_ring(
-    heap: Global,
+    alloc: Global,
     setup: RingSetup,
     requests: &[u8],
 ) -> Result<Playback, AllocError>
     ensures { IfOk result (λ p. Outcome (Ring setup) (lines requests.now) (string_bytes p.text) p.fault) }
 {
-    match play_ring(heap, setup, requests) {
+    match play_ring(alloc, setup, requests) {
         Ok(playback) => Ok(playback),
-        Err(Unplayed::Refused(fault)) => refused(heap, fault),
+        Err(Unplayed::Refused(fault)) => refused(alloc, fault),
         Err(Unplayed::OutOfMemory) => Err(AllocError),
     }
 }
 
 #[tactic(auto, using(crate::proofs::Policies::with_fixed, crate::proofs::Policies::with_adaptive))]
-fn play_ring(heap: Global, setup: RingSetup, requests: &[u8]) -> Result<Playback, Unplayed>
+fn play_ring(alloc: Global, setup: RingSetup, requests: &[u8]) -> Result<Playback, Unplayed>
     ensures { Tried (ring_fault setup) (PlayedWith setup.policy setup.windows (room_of setup.store) (lines requests.now)) result }
 {
     let windows = WindowCount::try_from(setup.windows)?;
     let room = room_of(setup.store);
     match setup.policy {
         PolicySetup::Fixed(spill, fill) => {
-            play_with(heap, windows, Fixed::new(spill, fill)?, room, requests)
+            play_with(alloc, windows, Fixed::new(spill, fill)?, room, requests)
         }
-        PolicySetup::Adaptive => play_with(heap, windows, Adaptive::new(), room, requests),
+        PolicySetup::Adaptive => play_with(alloc, windows, Adaptive::new(), room, requests),
     }
 }
 
@@ -83,7 +83,7 @@ fn room_of(store: StoreSetup) -> u32
 
 // The flat file beside a ring has the ring's capacity, and may be refused.
 fn play_with<P: SpillPolicy + Drop>(
-    heap: Global,
+    alloc: Global,
     windows: WindowCount,
     policy: P,
     room: u32,
@@ -92,17 +92,17 @@ fn play_with<P: SpillPolicy + Drop>(
     ensures { Tried (capacity_fault (ring_capacity windows.count room)) (PlayedRing P.SpillPolicy policy windows.count room (lines requests.now)) result }
 {
     let beside = FlatFile::new(windows.most_resident().saturating_add(room))?;
-    let script = read_script(heap, requests)?;
+    let script = read_script(alloc, requests)?;
     let empty = SavedWindow {
         locals: [0; 8],
         ins: [0; 8],
     };
-    let mut table = vec![in heap; empty; room as usize]?;
+    let mut table = vec![in alloc; empty; room as usize]?;
     let mut saved = Stack::new(table.as_mut_slice());
     let both = Compared {
         ring: WindowRing::new(windows, &mut saved, policy),
         beside,
         agrees: true,
     };
-    Ok(both.play(heap, script)?)
+    Ok(both.play(alloc, script)?)
 }

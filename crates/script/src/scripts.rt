@@ -18,10 +18,10 @@ pub struct Script {
 
 // Lines count from 1, and the first chose the file. Only when memory runs out is left open.
 #[tactic(auto, using(crate::proofs::Turns::no_call_here, crate::proofs::Turns::call_here, crate::proofs::Turns::all_read))]
-pub fn read_script(heap: Global, requests: &[u8]) -> Result<Script, AllocError>
+pub fn read_script(alloc: Global, requests: &[u8]) -> Result<Script, AllocError>
     ensures reads_the_calls_up_to_the_first_other_line { IfOk result (λ s. Scripted 2 (lines requests.now) s.calls.items s.fault) }
 {
-    let mut calls = Vec::new(heap);
+    let mut calls = Vec::new(alloc);
     for (line, request) in Lines::new(requests, 2) {
         let Some(call) = read_call(request) else {
             let fault = LineFault::new(line, Expected::Request);
