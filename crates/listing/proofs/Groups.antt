@@ -1,18 +1,8 @@
 -- The eight words of a group.
-use Rattle.std.proofs.Common.{◌≡◌, ℕ, ◌<◌, ◌≤◌, List, get_or, Result, sym, refl, ap, ◌∙◌}
-use Rattle.std.specs.Result.{result_unwrap_or}
+use Rattle.std.proofs.Common.{◌≡◌, ℕ, List, get_or, sym, refl, ◌∙◌}
 use Rattle.std.proofs.lemmas.List.FromFn.{fill_by_all}
-use Rattle.std.proofs.lemmas.Bool.{cond-true}
-use Rattle.frames.proofs.Registers.{windowed}
-use Rattle.refusal.specs.declared.faults.FileFault.{FileFault}
-use Rattle.frames.specs.Frames.{Frames, Shaped, word, frame_of, is_windowed, read_answer}
+use Rattle.frames.specs.Frames.{Frames, Shaped, word, frame_of}
 use Rattle.listing.specs.Listing.{eight_words}
-
--- a register from 8 to 31 is never refused
-pub read_word : (s : Frames) (r : ℕ) (answer : Result ℕ FileFault) (v : ℕ) → 8 ≤ r → r < 32 → answer ≡ read_answer s r → v ≡ result_unwrap_or answer 0 → v ≡ word s r
-read_word s r answer v low high told took =
-    took
-    ∙ ap (λ (a : Result ℕ FileFault). result_unwrap_or a 0) (told ∙ cond-true (is_windowed r) _ _ (windowed r low high))
 
 pub outs_words : (s : Frames) → Shaped s → eight_words s 8 ≡ s.outs
 unfolding word eight_words

@@ -49,11 +49,10 @@ fn group<F: RegisterFile>(file: &F, first: u32) -> [u32; 8]
     array::from_fn(|i| word(file, first + i as u32))
 }
 
-#[tactic(auto, using(crate::proofs::Groups::read_word))]
 fn word<F: RegisterFile>(file: &F, register: u32) -> u32
     requires { (8 ≤ register) × (register < 32) }
     ensures { result ≡ word (F.RegisterFile.state file.now) register }
 {
-    // The file has every register from 8 to 31, so the 0 is never taken.
-    file.read(register).unwrap_or(0)
+    // The file has every register from 8 to 31.
+    file.read(register).unwrap()
 }
