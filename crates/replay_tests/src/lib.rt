@@ -3,7 +3,10 @@
 
 #[cfg(test)]
 mod tests {
-    use playback::replaying::replay;
+    use frames::calls::Reply;
+    use playback::playing::write_answer;
+    use playback::replaying::{replay, replay_flat};
+    use refusal::faults::FileFault;
     use script::faults::{Expected, LineFault};
     use std::test::Fail;
 
@@ -34,6 +37,27 @@ mod tests {
         let fault = LineFault {
             line: 1,
             expected: Expected::Setup,
+        };
+        assert_eq!(rt; played.fault, Some(fault));
+        Ok(())
+    }
+
+    #[test]
+    fn answers_are_written_on_lines(rt: HostRuntime) -> Result<(), Fail> {
+        let mut text = String::new(rt.alloc());
+        write_answer(&mut text, Ok(Reply::Word(5)))?;
+        write_answer(&mut text, Err(FileFault::LastFrame(1)))?;
+        assert_eq!(rt; text.as_str(), "word 5\nrefused 3 File at 1\n");
+        Ok(())
+    }
+
+    #[test]
+    fn flat_file_meets_the_lines_after_the_first(rt: HostRuntime) -> Result<(), Fail> {
+        let played = replay_flat(rt.alloc(), 2, b"save\nsave\nbye\n")?;
+        assert_eq!(rt; played.text.as_str(), "ok\nrefused 2 File at 2\n");
+        let fault = LineFault {
+            line: 4,
+            expected: Expected::Request,
         };
         assert_eq!(rt; played.fault, Some(fault));
         Ok(())
