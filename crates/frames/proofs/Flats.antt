@@ -6,10 +6,11 @@ use Rattle.std.proofs.lemmas.List.FromFn.{length-map-range_with_len, map-range_w
 use Rattle.std.proofs.lemmas.List.{get_or-take, get_or-drop, drop-set-lt, drop-set-add, take-set-le, drop-drop, drop-take, take-take, drop_at, length-take-le}
 use Rattle.std.proofs.lemmas.Bool.{cond-true, cond-false, lt-ltb, le-ltb, cases_lt, and_parts, leb-true, ltb-true, ltb-false, le-leb, lt-leb, ne_eqb}
 use Rattle.refusal.specs.declared.faults.FileFault.{FileFault}
+use Rattle.frames.specs.declared.flat.FlatFile.{FlatFile}
 use Rattle.frames.specs.declared.frame.Frame.{Frame}
 use Rattle.refusal.specs.declared.faults.FileFault.TheVariants.{AtCapacity}
-use Rattle.frames.specs.Frames.{Frames, depth_of, told_depth, no_frame, is_windowed, is_full, is_last, word, with_word, saved, restored, read_answer, write_after, save_answer, save_after}
-use Rattle.frames.specs.Flat.{base, eight, frame_at, flat_frames, flat_place, flat_opened, flat_caller}
+use Rattle.frames.specs.Frames.{Frames, depth_of, told_depth, told_spare, no_frame, is_windowed, is_full, is_last, word, with_word, saved, restored, read_answer, write_after, save_answer, save_after}
+use Rattle.frames.specs.Flat.{base, flat_state, eight, frame_at, flat_frames, flat_place, flat_opened, flat_caller}
 use Rattle.frames.specs.FlatShape.{depth_flat}
 use Rattle.frames.proofs.Registers.{word_out, word_local, word_in}
 use Rattle.frames.proofs.Same.{same_frames}
@@ -152,6 +153,14 @@ found_if false p at e h = absurd (let z : ◌≡◌ {A = ℕ} 0 1 = cc in omega 
 missed_if : (b : Bool) (p : ℕ) (d e : FileFault) → Err d ≡ cond b (Ok p) (Err e) → (b ≡ false) × (d ≡ e)
 missed_if true p d e h = absurd (let z : ◌≡◌ {A = ℕ} 0 1 = cc in omega arith)
 missed_if false p d e h = (refl, cc)
+
+-- depth and spare as they are told: no flat file has more frames than can be told
+pub told_flat : (f : FlatFile) → (f.top + 1 ≡ told_depth (flat_state f)) × (f.capacity - (f.top + 1) ≡ told_spare (flat_state f))
+told_flat f =
+    let d = depth_flat f.words f.top f.capacity in
+    let within = f.within in
+    let few = f.bounded in
+    (omega arith, omega arith)
 
 -- a register of the file, read and written
 module _ (ws : List ℕ) (top most r : ℕ) (is : is_windowed r ≡ true) where

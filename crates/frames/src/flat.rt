@@ -35,25 +35,11 @@ impl FlatFile {
         })
     }
 
-    // How many frames there are.
-    fn frames(&self) -> u32
-        ensures { result ≡ self.now.top + 1 }
-    {
-        self.top + 1
-    }
-
-    // How many frames more there may be.
-    fn room(&self) -> u32
-        ensures { result ≡ self.now.capacity - (self.now.top + 1) }
-    {
-        self.capacity - self.frames()
-    }
-
     // The frame that a save opens.
     fn opened(&self) -> Result<u32, FileFault>
         ensures { result ≡ flat_opened self.now.top self.now.capacity }
     {
-        let frames = self.frames();
+        let frames = self.top + 1;
         if frames < self.capacity {
             Ok(frames)
         } else {
@@ -137,11 +123,13 @@ impl RegisterFile for FlatFile {
         Ok(())
     }
 
+    #[tactic(auto, using(crate::proofs::Flats::told_flat))]
     fn depth(&self) -> u32 {
-        self.frames()
+        self.top + 1
     }
 
+    #[tactic(auto, using(crate::proofs::Flats::told_flat))]
     fn spare(&self) -> u32 {
-        self.room()
+        self.capacity - self.depth()
     }
 }

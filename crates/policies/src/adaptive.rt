@@ -55,12 +55,10 @@ impl SpillPolicy for Adaptive {
         4 - self.count
     }
 
-    #[tactic(auto, using(crate::proofs::Same::same_adaptive))]
     fn overflowed(&mut self) {
         self.count = self.raised();
     }
 
-    #[tactic(auto, using(crate::proofs::Same::same_adaptive))]
     fn underflowed(&mut self) {
         self.count = self.lowered();
     }

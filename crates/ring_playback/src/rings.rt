@@ -93,11 +93,7 @@ fn play_with<P: SpillPolicy + Drop>(
 {
     let beside = FlatFile::new(windows.most_resident().saturating_add(room))?;
     let script = read_script(alloc, requests)?;
-    let empty = SavedWindow {
-        locals: [0; 8],
-        ins: [0; 8],
-    };
-    let mut table = vec![in alloc; empty; room as usize]?;
+    let mut table = vec![in alloc; SavedWindow::zeros(); room as usize]?;
     let mut saved = Stack::new(table.as_mut_slice());
     let both = Compared {
         ring: WindowRing::new(windows, &mut saved, policy),

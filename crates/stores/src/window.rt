@@ -9,3 +9,18 @@ pub struct SavedWindow {
     ghost eight_locals: { length locals ≡ 8 },
     ghost eight_ins: { length ins ≡ 8 },
 }
+
+impl SavedWindow {
+    ghost use Rattle.frames.specs.Frames.{frame_of, zeros};
+    ghost use Rattle.stores.specs.Windows.{saved_frame};
+
+    // A place for a window to be taken to.
+    pub fn zeros() -> SavedWindow
+        ensures every_word_is_0 { saved_frame result ≡ frame_of zeros zeros }
+    {
+        SavedWindow {
+            locals: [0; 8],
+            ins: [0; 8],
+        }
+    }
+}

@@ -1,6 +1,5 @@
 -- Which texts are decimals of 32 bits.
-use Rattle.std.proofs.Common.{◌≡◌, ℕ, ◌^◌, ◌<◌, ◌≤◌, List, length, get_or, Ok, Err, Result, Option, Some, None, Bor, MatchResult, IsUtf8, decimal, sym, ap, ◌∙◌, subst, ⊎_elim, arith}
-use Rattle.std.specs.Option.{option_map_or}
+use Rattle.std.proofs.Common.{◌≡◌, ℕ, ◌^◌, ◌<◌, ◌≤◌, List, length, get_or, Ok, Err, Result, None, Bor, MatchResult, IsUtf8, decimal, sym, ap, ◌∙◌, subst, ⊎_elim, arith}
 use Rattle.std.specs.Result.{result_ok}
 use Rattle.std.specs.Str.{IsValidUpTo, valid_up_to}
 use Rattle.std.specs.declared.str.Utf8Error.{Utf8Error}
@@ -35,11 +34,7 @@ decimal_plain n h =
           (cases_lt n 1),
     )
 
--- the text that `from_utf8` gave of bytes, or that they are none
-pub text_same : {E : Type 0} (V : E → Type 0) (bs : List ℕ) (s : Bor (List ℕ)) (r : Result (Bor (List ℕ)) E) → MatchResult r (λ t. (t.now ≡ bs) × IsUtf8 bs) V → Some s ≡ result_ok r → s.now ≡ bs
-text_same V bs s (Ok t) cases e = ap (λ (o : Option (Bor (List ℕ))). option_map_or (λ x. x.now) o bs) e ∙ cases.0
-text_same V bs s (Err _) cases e = cc
-
+-- bytes that `from_utf8` refuses
 pub not_text : (bs : List ℕ) (r : Result (Bor (List ℕ)) Utf8Error) → MatchResult r (λ t. (t.now ≡ bs) × IsUtf8 bs) (λ e. ¬ (IsUtf8 bs) × IsValidUpTo bs (valid_up_to e)) → None ≡ result_ok r → Reads Small decimal bs None
 not_text bs (Ok t) cases e = cc
 not_text bs (Err _) cases e = λ n h same. cases.0 (subst IsUtf8 (sym same) (decimal_utf8 n h))

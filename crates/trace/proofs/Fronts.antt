@@ -57,8 +57,3 @@ module _ (bs : List ℕ) (n : ℕ) (rest : List ℕ) (small : Small n) (e : bs �
   cut_there whole =
       let same : length bs ≡ length (decimal n) = ap length (sym whole ∙ front_is) in
       let long : length bs ≡ length (decimal n ++ (32 ∷ rest)) = ap length e in omega (arith, longer n rest)
-
--- a text whose front has been read goes on in one way
-module _ {X : Type 0} (text : X → List ℕ) (x : X) {line rest : List ℕ} (front : line ≡ text x ++ (codes " " ++ rest)) where
-  pub same_rest : {Small : X → Type 0} → OneFront Small text → Small x → (y : X) (more : List ℕ) → Small y → line ≡ text y ++ (codes " " ++ more) → rest ≡ more
-  same_rest one small y more also e = (one x y rest more small also (sym front ∙ e)).1

@@ -17,7 +17,7 @@ fn is_plain(text: &[u8]) -> bool
 }
 
 // Reads back exactly the decimals of 32 bits: no sign, no leading zero, at least one digit.
-#[tactic(auto, using(crate::proofs::Decimals::decimal_plain, crate::proofs::Decimals::reads_parsed, crate::proofs::Decimals::text_same, crate::proofs::Decimals::not_text))]
+#[tactic(auto, using(crate::proofs::Decimals::decimal_plain, crate::proofs::Decimals::reads_parsed))]
 pub fn read_number(text: &[u8]) -> Option<u32>
     ensures reads_exactly_the_decimals { Reads Small decimal text.now result }
 {

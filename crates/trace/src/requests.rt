@@ -5,7 +5,7 @@ use crate::numbers::{number_front, read_number};
 use frames::calls::Call;
 
 // Two numbers with one space between.
-#[tactic(auto, using(crate::proofs::Fronts::one_number, crate::proofs::Fronts::same_rest))]
+#[tactic(auto, using(crate::proofs::Fronts::one_number))]
 fn read_pair(text: &[u8]) -> Option<(u32, u32)>
     ensures { Reads SmallPair pair_text text.now result }
 {

@@ -44,7 +44,7 @@ pub fn read_setup(line: &[u8]) -> Option<Setup>
 }
 
 // What follows the word `ring`.
-#[tactic(auto, using(crate::proofs::Fronts::one_number, crate::proofs::OneSetup::one_policy, crate::proofs::Fronts::same_rest))]
+#[tactic(auto, using(crate::proofs::Fronts::one_number, crate::proofs::OneSetup::one_policy))]
 fn read_ring(words: &[u8]) -> Option<RingSetup>
     ensures { Reads SmallRing ring_text words.now result }
 {

@@ -32,10 +32,7 @@ pub(super) fn fill<S: SaveStore>(residency: Residency, table: &mut WordTable, st
     ensures keeps_the_capacity { S.capacity store.new ≡ S.capacity store.old }
 {
     for j in 0..k {
-        let mut saved = SavedWindow {
-            locals: [0; 8],
-            ins: [0; 8],
-        };
+        let mut saved = SavedWindow::zeros();
         store.take(&mut saved).unwrap();
         table.set_window(residency.target(j), &saved);
     }
