@@ -22,7 +22,7 @@ use Rattle.ring_playback.specs.Rings.{PlayedRing, PlayedWith, Tried, count_fault
 tried_then : (o o' : Option SetupFault) (C D : List ℕ → Option LineFault → Type 0) (result : Result Playback Unplayed) → o ≡ o' → ((text : List ℕ) (f : Option LineFault) → C text f → D text f) → Tried o C result → Tried o' D result
 tried_then o o' C D (Ok p) same then tried = (sym same ∙ tried.0, then _ _ tried.1)
 tried_then o o' C D (Err (Refused e)) same then tried = sym same ∙ tried
-tried_then o o' C D (Err OutOfMemory) same then tried = tt
+tried_then o o' C D (Err (OutOfMemory error)) same then tried = tt
 
 module _ (setup : RingSetup) (n room : ℕ) (ls : List (List ℕ)) (result : Result Playback Unplayed) (such : is_window_count setup.windows ≡ true) (counted : n ≡ setup.windows) (roomy : room ≡ room_of setup.store) where
   by_policy : (c : PolicySetup) (C : List ℕ → Option LineFault → Type 0) → setup.policy ≡ c → policy_fault c ≡ None → ((text : List ℕ) (f : Option LineFault) → C text f → PlayedWith c n room ls text f) →

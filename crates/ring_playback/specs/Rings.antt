@@ -70,4 +70,4 @@ PlayedWith policy.Adaptive n room ls text f = (p : Adaptive) × (p.count ≡ 0) 
 abbrev pub Tried : Option SetupFault → (List ℕ → Option LineFault → Type 0) → Result Playback Unplayed → Type 0
 Tried fault claim (Ok p) = (fault ≡ None) × claim (string_bytes p.text) p.fault
 Tried fault claim (Err (Refused e)) = fault ≡ Some e
-Tried fault claim (Err OutOfMemory) = Unit {0}
+Tried fault claim (Err (OutOfMemory error)) = Unit {0}

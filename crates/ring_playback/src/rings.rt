@@ -26,7 +26,7 @@ use trace::setups::{PolicySetup, RingSetup, StoreSetup};
 #[derive(Drop)]
 pub(crate) enum Unplayed {
     Refused(SetupFault),
-    OutOfMemory,
+    OutOfMemory(AllocError),
 }
 
 impl From<SetupFault> for Unplayed {
@@ -38,10 +38,10 @@ impl From<SetupFault> for Unplayed {
 }
 
 impl From<AllocError> for Unplayed {
-    ghost from_gives = { λ _ e. e ≡ unplayed.OutOfMemory };
+    ghost from_gives = { λ oom e. e ≡ unplayed.OutOfMemory oom };
 
-    fn from(_: AllocError) -> Unplayed {
-        Unplayed::OutOfMemory
+    fn from(error: AllocError) -> Unplayed {
+        Unplayed::OutOfMemory(error)
     }
 }
 
@@ -56,7 +56,7 @@ pub(crate) fn replay_ring(
     match play_ring(alloc, setup, requests) {
         Ok(playback) => Ok(playback),
         Err(Unplayed::Refused(fault)) => refused(alloc, fault),
-        Err(Unplayed::OutOfMemory) => Err(AllocError),
+        Err(Unplayed::OutOfMemory(error)) => Err(error),
     }
 }
 
