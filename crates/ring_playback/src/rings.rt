@@ -94,9 +94,8 @@ fn play_with<P: SpillPolicy + Drop>(
     let beside = FlatFile::new(windows.most_resident().saturating_add(room))?;
     let script = read_script(alloc, requests)?;
     let mut table = vec![in alloc; SavedWindow::zeros(); room as usize]?;
-    let mut saved = Stack::new(table.as_mut_slice());
     let both = Compared {
-        ring: WindowRing::new(windows, &mut saved, policy),
+        ring: WindowRing::new(windows, Stack::new(table.as_mut_slice()), policy),
         beside,
         agrees: true,
     };
