@@ -1,8 +1,8 @@
--- A turn of the unwinding, and its end.
+-- A turn of the unwinding.
 use Rattle.std.proofs.Common.{◌≡◌, ◌-◌, ◌<◌, Bool, true, false, cond, List, [], ◌∷◌, ◌++◌, reverse, length, Ok, Err, Result, sym, refl, ap, ◌∙◌, append_assoc, arith}
 use Rattle.std.specs.Result.{is_ok}
-use Rattle.std.proofs.lemmas.List.{reverse-append, reverse-reverse, nil_from_length, length-take}
-use Rattle.std.proofs.lemmas.Bool.{eqb-true, eqb-false}
+use Rattle.std.proofs.lemmas.List.{reverse-append, length-take}
+use Rattle.std.proofs.lemmas.Bool.{eqb-false}
 use Rattle.refusal.specs.declared.faults.FileFault.{FileFault}
 use Rattle.frames.specs.declared.frame.Frame.{Frame}
 use Rattle.frames.proofs.Callers.{all_restored}
@@ -11,10 +11,6 @@ use Rattle.frames.specs.Frames.{Frames, all_frames, depth_of, is_last, restored,
 went_on : (b : Bool) (e : FileFault) → true ≡ is_ok {T = Unit {0}} {E = FileFault} (cond b (Err e) (Ok tt)) → b ≡ false
 went_on true e h = cc
 went_on false e h = refl
-
-stopped : (b : Bool) (e : FileFault) → false ≡ is_ok {T = Unit {0}} {E = FileFault} (cond b (Err e) (Ok tt)) → b ≡ true
-stopped true e h = refl
-stopped false e h = cc
 
 one_less : (s : Frames) → is_last s ≡ false → all_frames (restored s) ≡ s.older
 one_less s more = all_restored s (omega (arith, eqb-false (depth_of s) 1 more))
@@ -38,12 +34,6 @@ module _ (s : Frames) (r : Result (Unit {0}) FileFault) (answer : r ≡ restore_
 
     pub one_moved : t.older ++ t.newest ∷ [] ≡ s.older
     one_moved = ap all_frames (after ∙ after_more s more) ∙ one_less s more
-
-  pub end : false ≡ is_ok r → (all vs : List Frame) → s.older ++ reverse vs ≡ all → vs ≡ reverse all
-  end refused all vs sofar =
-      let last = stopped (is_last s) _ (refused ∙ ap is_ok answer) in
-      let none : s.older ≡ [] = nil_from_length s.older (omega (arith, eqb-true (depth_of s) 1 last)) in
-      sym (reverse-reverse vs) ∙ ap reverse (ap (λ (fs : List Frame). fs ++ reverse vs) (sym none) ∙ sofar)
 
 -- the list of the frames taken is read newest first
 pub newest_first : (xs ys : List Frame) (f : Frame) → xs ++ reverse (ys ++ f ∷ []) ≡ (xs ++ f ∷ []) ++ reverse ys

@@ -9,7 +9,7 @@ use std::alloc::{AllocError, Global};
 use std::array;
 
 // Every frame of the file, newest first. Only when memory runs out is left open.
-#[tactic(auto, using(crate::proofs::Unwound::falls, crate::proofs::Unwound::one_moved, crate::proofs::Unwound::newest_first, crate::proofs::Unwound::end))]
+#[tactic(auto, using(crate::proofs::Unwound::falls, crate::proofs::Unwound::one_moved, crate::proofs::Unwound::newest_first))]
 pub fn unwind<F: RegisterFile + Drop>(alloc: Global, mut file: F) -> Result<Vec<Frame>, AllocError>
     ensures gives_every_frame { IfOk result (λ v. v.items ≡ reverse (all_frames (F.RegisterFile.state file))) }
 {
