@@ -3,7 +3,7 @@ use Rattle.ring.specs.Movements.{fill_size, moving}
 use Rattle.ring.specs.Tables.{count_of, pointer_of, resident_of}
 use Rattle.ring.specs.Transfers.{Filled}
 use Rattle.ring.specs.Words.{upper, window_at}
-use Rattle.ring.proofs.Restoring.{restore_within, restore_of_the_last, restore_with_underflow}
+use Rattle.ring.proofs.Restoring.{restore_within, restore_with_underflow}
 use Rattle.ring.proofs.ring.methods.WindowRingRegisterFile.restore.Goals as goal
 
 pub returns-then-resident-gt1 : goal.returns-then-resident-gt1
@@ -11,17 +11,6 @@ returns-then-resident-gt1 g c =
     let x = c.args.self.now in
     let more : 1 < resident_of x.windows = omega arith in
     let done = restore_within g.S.SaveStore g.P.SpillPolicy x c.leave.new.self c.leave.ensures.pointer_goes_up c.leave.ensures.keeps_the_words more in
-    search rules
-
-pub returns-then-k-eq0 : goal.returns-then-k-eq0
-returns-then-k-eq0 g c =
-    let x = c.args.self.now in
-    let range = g.P.SpillPolicy.in_range x.policy in
-    let some = range.some_fill in
-    let low = x.windows.residency.windows.some_resident in
-    let one : resident_of x.windows ≤ 1 = omega arith in
-    let none : length (g.S.SaveStore.windows x.store) ≤ 0 = omega (arith, c.trap_size-k.ensures, c.fill_amount.ensures.answers_its_amount, c.held.ensures.answers_as_the_list_does, c.if-k-eq0.true) in
-    let done = restore_of_the_last g.S.SaveStore g.P.SpillPolicy x c.depth.result one none c.depth.ensures.answers_as_the_frames_do in
     search rules
 
 pub returns : goal.returns
