@@ -27,14 +27,6 @@ impl TryFrom<u32> for Register {
     }
 }
 
-impl From<Register> for u32 {
-    ghost from_gives = { λ r n. n ≡ r.number };
-
-    fn from(register: Register) -> u32 {
-        register.number
-    }
-}
-
 impl Register {
     // How many registers of a file stand before it.
     pub fn offset(self) -> usize

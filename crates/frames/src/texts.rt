@@ -1,8 +1,9 @@
-// How a reply is written.
+// How replies and answers are written.
 ghost use Rattle.std.specs.Prelude.{Some};
-ghost use Rattle.frames.specs.Texts.{reply_text};
+ghost use Rattle.frames.specs.Texts.{answer_text, reply_text};
 
-use crate::calls::Reply;
+use crate::calls::{Answer, Reply};
+use refusal::refusals::Refusal;
 use std::fmt;
 
 impl fmt::Display for Reply {
@@ -14,6 +15,24 @@ impl fmt::Display for Reply {
             Reply::Word(word) => write!(f, "word {word}"),
             Reply::Depth(frames) => write!(f, "depth {frames}"),
             Reply::Spare(frames) => write!(f, "spare {frames}"),
+        }
+    }
+}
+
+// An answer to be printed: a reply, or the refusal.
+#[derive(Clone, Copy)]
+pub struct Shown(pub Answer);
+
+impl fmt::Display for Shown {
+    ghost output = { λ a. Some (answer_text a.0) };
+
+    fn fmt<W: fmt::Write>(&self, f: &mut fmt::Formatter<W>) -> fmt::Result {
+        match self.0 {
+            Ok(reply) => write!(f, "{reply}"),
+            Err(fault) => {
+                let refusal = Refusal::from(fault);
+                write!(f, "{refusal}")
+            }
         }
     }
 }

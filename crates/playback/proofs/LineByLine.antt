@@ -1,5 +1,5 @@
 -- A script's text is that of its lines.
-use Rattle.std.proofs.Common.{ℕ, List, ◌∷◌, Option, refl, append_assoc}
+use Rattle.std.proofs.Common.{◌≡◌, ℕ, List, [], ◌∷◌, ◌++◌, Option, refl, sym, ap, ◌∙◌, append_assoc}
 use Rattle.listing.specs.Listing.{listing_text}
 use Rattle.frames.specs.Calls.{after_call, after_calls, answer_to}
 use Rattle.frames.specs.Texts.{answer_text}
@@ -17,5 +17,18 @@ by_lines {f = f} (one_more {cs = cs} c call rest) s =
     answers c call (by_lines rest (after_call s c))
     (append_assoc (ended (answer_text (answer_to s c))) (answers_text (after_call s c) cs) (closing f (listing_text (after_calls s (c ∷ cs)))))
 
+by_script : {k : ℕ} {s : Frames} {ls : List (List ℕ)} {text : List ℕ} {f : Option LineFault} → Plays k s ls text f → (cs : List Call) × Scripted k ls cs f × (text ≡ played_text s cs f)
+by_script (lists_the_frames e) = ([], no_more, e)
+by_script (breaks_off none) = ([], no_call none, refl)
+by_script {s = s} (answers c call rest e) =
+    let more = by_script rest in (
+      c ∷ more.0,
+      one_more c call more.1,
+      e
+          ∙ ap (λ (x : List ℕ). ended (answer_text (answer_to s c)) ++ x) more.2
+          ∙ sym (append_assoc (ended (answer_text (answer_to s c))) (answers_text (after_call s c) more.0) _),
+    )
+
 pub plays_line_by_line : PlaysLineByLine
-plays_line_by_line k s ls cs f read = by_lines read s
+plays_line_by_line =
+    record { a_script_plays_its_lines = λ k s ls cs f read. by_lines read s; lines_play_their_script = λ k s ls text f plays. by_script plays }

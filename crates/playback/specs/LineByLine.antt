@@ -17,7 +17,7 @@ pub data Plays : ℕ → Frames → List (List ℕ) → List ℕ → Option Line
   answers : {k : ℕ} {s : Frames} {l text rest : List ℕ} {ls : List (List ℕ)} {f : Option LineFault} (c : Call) → CallLine l (Some c) → Plays (k + 1) (after_call s c) ls rest f →
       text ≡ ended (answer_text (answer_to s c)) ++ rest → Plays k s (l ∷ ls) text f
 
--- what the script of some lines prints is what the lines print one by one
-abbrev pub PlaysLineByLine : Type 0
-PlaysLineByLine =
-    (k : ℕ) (s : Frames) (ls : List (List ℕ)) (cs : List Call) (f : Option LineFault) → Scripted k ls cs f → Plays k s ls (played_text s cs f) f
+-- what the script of some lines prints is what the lines print one by one, and the other way
+pub record PlaysLineByLine : Type 0 where
+  pub a_script_plays_its_lines : (k : ℕ) (s : Frames) (ls : List (List ℕ)) (cs : List Call) (f : Option LineFault) → Scripted k ls cs f → Plays k s ls (played_text s cs f) f
+  pub lines_play_their_script : (k : ℕ) (s : Frames) (ls : List (List ℕ)) (text : List ℕ) (f : Option LineFault) → Plays k s ls text f → (cs : List Call) × Scripted k ls cs f × (text ≡ played_text s cs f)

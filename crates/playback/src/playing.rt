@@ -1,11 +1,11 @@
 // The calls of a script, made on any register file.
-ghost use Rattle.std.specs.Prelude.{◌≡◌, [], ◌++◌, IfOk, string_bytes, OnOk};
-ghost use Rattle.frames.specs.Texts.{answer_text};
+ghost use Rattle.std.specs.Prelude.{◌≡◌, [], IfOk, string_bytes};
 ghost use Rattle.script.specs.Scripts.{unread};
-ghost use Rattle.playback.specs.Playing.{Refused, ended, played_text};
+ghost use Rattle.playback.specs.Playing.{Refused, played_text};
 
-use frames::calls::{Answer, perform};
+use frames::calls::perform;
 use frames::file::RegisterFile;
+use frames::texts::Shown;
 use listing::texts::listing;
 use refusal::faults::SetupFault;
 use refusal::refusals::Refusal;
@@ -40,19 +40,6 @@ pub fn refused(alloc: Global, fault: SetupFault) -> Result<Playback, AllocError>
     Ok(Playback { text, fault: None })
 }
 
-// Adds an answer on a line.
-pub fn write_answer(text: &mut String, answer: Answer) -> Result<(), AllocError>
-    ensures adds_its_line { OnOk result (string_bytes text.new ≡ string_bytes text.old ++ ended (answer_text answer)) }
-{
-    match answer {
-        Ok(reply) => writeln!(text, "{reply}"),
-        Err(fault) => {
-            let refusal = Refusal::from(fault);
-            writeln!(text, "{refusal}")
-        }
-    }
-}
-
 // Makes the calls of a script on any file, and lists the frames that are left, unless a line ended it.
 pub fn play<F: RegisterFile + Drop>(
     alloc: Global,
@@ -64,7 +51,8 @@ pub fn play<F: RegisterFile + Drop>(
     let Script { calls, fault } = script;
     let mut text = String::new(alloc);
     for call in &calls {
-        write_answer(&mut text, perform(&mut file, *call))?;
+        let answer = Shown(perform(&mut file, *call));
+        writeln!(text, "{answer}")?;
     }
     if fault.is_none() {
         let frames = listing(alloc, file)?;

@@ -3,10 +3,7 @@
 
 #[cfg(test)]
 mod tests {
-    use frames::calls::Reply;
-    use playback::playing::write_answer;
     use playback::replaying::{replay, replay_flat};
-    use refusal::faults::FileFault;
     use script::faults::{Expected, LineFault};
     use std::test::Fail;
 
@@ -39,15 +36,6 @@ mod tests {
             expected: Expected::Setup,
         };
         assert_eq!(rt; played.fault, Some(fault));
-        Ok(())
-    }
-
-    #[test]
-    fn answers_are_written_on_lines(rt: HostRuntime) -> Result<(), Fail> {
-        let mut text = String::new(rt.alloc());
-        write_answer(&mut text, Ok(Reply::Word(5)))?;
-        write_answer(&mut text, Err(FileFault::LastFrame(1)))?;
-        assert_eq!(rt; text.as_str(), "word 5\nrefused 3 File at 1\n");
         Ok(())
     }
 

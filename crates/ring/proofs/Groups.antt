@@ -68,22 +68,22 @@ ins_beside_locals ws zs w fits z = eight_above_paste ws zs (locals_at w) (ins_at
 
 -- a window written over is the saved one, and no other has changed
 module _ (ws : List ℕ) (w : ℕ) (x : SavedWindow) (long : length ws ≡ 512) (inside : w < 32) where
-  length_half : length (paste ws (locals_at w) x.locals 8) ≡ 512
-  length_half = let l = x.eight_locals in length-paste ws (locals_at w) x.locals 8 (omega arith) (omega arith) ∙ long
+  length_half : length (paste ws (locals_at w) x.frame.locals 8) ≡ 512
+  length_half = let l = x.eight_locals in length-paste ws (locals_at w) x.frame.locals 8 (omega arith) (omega arith) ∙ long
 
   pub window_written : window_at (with_window ws w x) w ≡ saved_frame x
   window_written =
-      let half : List ℕ = paste ws (locals_at w) x.locals 8 in
+      let half : List ℕ = paste ws (locals_at w) x.frame.locals 8 in
       let l = x.eight_locals in
       let i = x.eight_ins in
       let h = length_half in
-      let a : eight (with_window ws w x) (ins_at w) ≡ x.ins = eight_pasted half x.ins (ins_at w) (omega arith) i in
-      let b : eight (with_window ws w x) (locals_at w) ≡ x.locals = eight_below_paste half x.ins (ins_at w) (locals_at w) (omega arith) (omega arith) i ∙ eight_pasted ws x.locals (locals_at w) (omega arith) l in
+      let a : eight (with_window ws w x) (ins_at w) ≡ x.frame.ins = eight_pasted half x.frame.ins (ins_at w) (omega arith) i in
+      let b : eight (with_window ws w x) (locals_at w) ≡ x.frame.locals = eight_below_paste half x.frame.ins (ins_at w) (locals_at w) (omega arith) (omega arith) i ∙ eight_pasted ws x.frame.locals (locals_at w) (omega arith) l in
       λ j. frame_of (a j) (b j)
 
   pub window_kept : (u : ℕ) → (u ≡ w → ⊥) → window_at (with_window ws w x) u ≡ window_at ws u
   window_kept u other =
-      let half : List ℕ = paste ws (locals_at w) x.locals 8 in
+      let half : List ℕ = paste ws (locals_at w) x.frame.locals 8 in
       let h = length_half in
-      window_paste_other half x.ins w u (ins_at w) (omega arith) (omega arith) (omega arith) x.eight_ins other
-      ∙ window_paste_other ws x.locals w u (locals_at w) (omega arith) (omega arith) (omega arith) x.eight_locals other
+      window_paste_other half x.frame.ins w u (ins_at w) (omega arith) (omega arith) (omega arith) x.eight_ins other
+      ∙ window_paste_other ws x.frame.locals w u (locals_at w) (omega arith) (omega arith) (omega arith) x.eight_locals other

@@ -4,8 +4,7 @@ use Rattle.std.proofs.lemmas.Bool.{cond_below}
 use Rattle.std.proofs.lemmas.List.{drop_more, get_or-take, length-append, length_push, length-take-le, take_more, take-take}
 use Rattle.std.proofs.lemmas.Bool.Decides.{nat_tests}
 use Rattle.frames.specs.declared.frame.Frame.{Frame}
-use Rattle.frames.specs.Flat.{eight}
-use Rattle.frames.specs.Frames.{frame_of, no_frame}
+use Rattle.frames.specs.Frames.{no_frame}
 use Rattle.stores.specs.declared.window.SavedWindow.{SavedWindow}
 use Rattle.stores.specs.Stacks.{put_after, take_after, taken}
 use Rattle.stores.specs.Windows.{saved_frame}
@@ -14,7 +13,7 @@ use Rattle.ring.specs.declared.windows.Windows.{Windows}
 use Rattle.ring.specs.Tables.{count_of, pointer_of, resident_of, words_of}
 use Rattle.ring.specs.Transfers.{Spilled}
 use Rattle.ring.proofs.Depths.{few_resident, some_resident}
-use Rattle.ring.specs.Words.{ins_at, locals_at, residents, upper, window_at, with_window}
+use Rattle.ring.specs.Words.{residents, upper, window_at, with_window}
 use Rattle.ring.specs.RingShape.{length_upper}
 use Rattle.ring.proofs.Groups.{window_written, window_kept}
 use Rattle.ring.proofs.Uppers.{drop_upper, get_or_upper, upper_end, upper_same, upper_step}
@@ -49,12 +48,12 @@ drop_residents ws n p r k inside some few h =
 
 -- a window more is spilled: the next in age goes to a store with room for it
 pub spill_more : (t : Windows) (xs ys zs : List Frame) (room j w : ℕ) (x : SavedWindow) → j < resident_of t → length xs + j < room → w ≡ wrap (count_of t) (pointer_of t + (resident_of t - (j + 1))) →
-    x.locals ≡ eight (words_of t) (locals_at w) → x.ins ≡ eight (words_of t) (ins_at w) → zs ≡ put_after ys room (saved_frame x) → Spilled t xs ys j → Spilled t xs zs (j + 1)
-spill_more t xs ys zs room j w x h fits at locals ins put sofar =
+    saved_frame x ≡ window_at (words_of t) w → zs ≡ put_after ys room (saved_frame x) → Spilled t xs ys j → Spilled t xs zs (j + 1)
+spill_more t xs ys zs room j w x h fits at copied put sofar =
     let R : List Frame = residents (words_of t) (count_of t) (pointer_of t) (resident_of t) in
     let all = length_residents (words_of t) (count_of t) (pointer_of t) (resident_of t) (some_resident t) in
     let held : length ys ≡ length xs + j = ap length sofar ∙ length-append xs (take j R) ∙ ap (λ (m : ℕ). length xs + m) (length-take-le j R (omega arith)) in
-    let is : saved_frame x ≡ get_or R j no_frame = (λ i. frame_of (ins i) (locals i)) ∙ ap (window_at (words_of t)) at ∙ sym (resident_at (words_of t) (count_of t) (pointer_of t) (resident_of t) j no_frame t.residency.inside (few_resident t) h) in
+    let is : saved_frame x ≡ get_or R j no_frame = copied ∙ ap (window_at (words_of t)) at ∙ sym (resident_at (words_of t) (count_of t) (pointer_of t) (resident_of t) j no_frame t.residency.inside (few_resident t) h) in
     put
     ∙ sym (cond_below _ _ (ys ++ (saved_frame x ∷ [])) ys (omega arith))
     ∙ (λ i. sofar i ++ (is i ∷ []))

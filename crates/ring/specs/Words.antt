@@ -37,7 +37,7 @@ place_of n p r = cond (nat_lt r 16) (ins_at (down n p) + (r - 8)) (locals_at p +
 
 -- window w written over with a saved one
 abbrev pub with_window : List ℕ → ℕ → SavedWindow → List ℕ
-with_window ws w x = paste (paste ws (locals_at w) x.locals 8) (ins_at w) x.ins 8
+with_window ws w x = paste (paste ws (locals_at w) x.frame.locals 8) (ins_at w) x.frame.ins 8
 
 -- window p's locals and window b's ins set to 0
 abbrev pub zeroed : List ℕ → ℕ → ℕ → List ℕ

@@ -18,11 +18,12 @@ pub struct Residency {
     ghost contiguous: { mask ≡ mask_of windows.count pointer (windows.count - count_ones mask) },
 }
 
-// x modulo n.
-fn wrapped(n: u32, x: u32) -> Window
-    requires { (x < n + n) × (n ≤ 32) }
-    ensures { result.number ≡ wrap n x }
+// x modulo the number of windows.
+fn wrapped(windows: WindowCount, x: u32) -> Window
+    requires { x < windows.count + windows.count }
+    ensures { result.number ≡ wrap windows.count x }
 {
+    let n = u32::from(windows);
     Window::new(if x < n { x } else { x - n })
 }
 
@@ -94,7 +95,7 @@ impl Residency {
         requires { by < window_count self.now }
         ensures { result.number ≡ wrap (window_count self.now) (self.now.pointer + by) }
     {
-        wrapped(u32::from(self.windows), self.pointer + by)
+        wrapped(self.windows, self.pointer + by)
     }
 
     // The window below the pointer's: it has the pointer's outs.
@@ -102,7 +103,7 @@ impl Residency {
         ensures { result.number ≡ down (window_count self.now) self.now.pointer }
     {
         let n = u32::from(self.windows);
-        wrapped(n, self.pointer + n - 1)
+        wrapped(self.windows, self.pointer + n - 1)
     }
 
     // The resident window that `j` others are older than.

@@ -2,6 +2,7 @@
 ghost use Rattle.std.specs.Prelude.{◌≡◌, length};
 
 use crate::window::Window;
+use frames::frame::Frame;
 use stores::window::SavedWindow;
 
 // Window w's locals begin at word 16 × w and its ins eight words above. Its outs are the ins of the window below.
@@ -14,8 +15,8 @@ pub struct WordTable {
 impl WordTable {
     ghost use Rattle.std.specs.Prelude.{◌≡◌, ◌+◌, ◌<◌, ◌≤◌, replicate, slice_index, slice_set};
     ghost use Rattle.std.proofs.Math.Seq.{paste};
-    ghost use Rattle.frames.specs.Flat.{eight};
-    ghost use Rattle.ring.specs.Words.{ins_at, locals_at, with_window, zeroed};
+    ghost use Rattle.stores.specs.Windows.{saved_frame};
+    ghost use Rattle.ring.specs.Words.{window_at, with_window, zeroed};
 
     pub(crate) fn zeros() -> WordTable
         ensures { result.words ≡ replicate 512 0 }
@@ -39,14 +40,14 @@ impl WordTable {
 
     // Window `w`, as it is saved.
     pub(crate) fn window(&self, w: Window) -> SavedWindow
-        ensures copies_the_locals { result.locals ≡ eight self.now.words (locals_at w.number) }
-        ensures copies_the_ins { result.ins ≡ eight self.now.words (ins_at w.number) }
+        ensures { saved_frame result ≡ window_at self.now.words w.number }
     {
         let (locals, ins) = (w.locals(), w.ins());
-        SavedWindow {
-            locals: self.words[locals..locals + 8].try_into().unwrap(),
+        let frame = Frame {
             ins: self.words[ins..ins + 8].try_into().unwrap(),
-        }
+            locals: self.words[locals..locals + 8].try_into().unwrap(),
+        };
+        SavedWindow { frame }
     }
 
     // Window `w` becomes the saved one.
@@ -54,8 +55,8 @@ impl WordTable {
         ensures { self.new.words ≡ with_window self.old.words w.number saved.now }
     {
         let (locals, ins) = (w.locals(), w.ins());
-        self.words[locals..locals + 8].copy_from_slice(&saved.locals);
-        self.words[ins..ins + 8].copy_from_slice(&saved.ins);
+        self.words[locals..locals + 8].copy_from_slice(&saved.frame.locals);
+        self.words[ins..ins + 8].copy_from_slice(&saved.frame.ins);
     }
 
     // Sets window `w`'s locals and window `below`'s ins to 0.

@@ -9,8 +9,9 @@ ghost use Rattle.ring_playback.specs.Beside.{ScriptTold, agreement_text, summary
 
 use frames::calls::{Answer, Call, perform};
 use frames::file::RegisterFile;
+use frames::texts::Shown;
 use listing::texts::listing;
-use playback::playing::{Playback, write_answer};
+use playback::playing::Playback;
 use policies::policy::SpillPolicy;
 use ring::ring::WindowRing;
 use script::scripts::Script;
@@ -49,7 +50,8 @@ impl<S: SaveStore + Drop, P: SpillPolicy + Drop, F: RegisterFile + Drop> Compare
         ensures moves_as_the_calls_do { OnOk result (moving S.SaveStore self.new.ring ≡ moves_by_all P.SpillPolicy (moving S.SaveStore self.old.ring) calls.now) }
     {
         for call in calls {
-            write_answer(text, self.perform(*call))?;
+            let answer = Shown(self.perform(*call));
+            writeln!(text, "{answer}")?;
         }
         Ok(())
     }

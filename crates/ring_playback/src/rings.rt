@@ -53,11 +53,10 @@ pub(crate) fn replay_ring(
 ) -> Result<Playback, AllocError>
     ensures { IfOk result (λ p. Outcome (Ring setup) (lines requests.now) (string_bytes p.text) p.fault) }
 {
-    match play_ring(alloc, setup, requests) {
-        Ok(playback) => Ok(playback),
-        Err(Unplayed::Refused(fault)) => refused(alloc, fault),
-        Err(Unplayed::OutOfMemory(error)) => Err(error),
-    }
+    play_ring(alloc, setup, requests).or_else(|unplayed| match unplayed {
+        Unplayed::Refused(fault) => refused(alloc, fault),
+        Unplayed::OutOfMemory(error) => Err(error),
+    })
 }
 
 #[tactic(auto, using(crate::proofs::Policies::with_fixed, crate::proofs::Policies::with_adaptive))]

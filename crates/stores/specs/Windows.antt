@@ -1,8 +1,7 @@
 -- A saved window as a frame.
 use Rattle.frames.specs.declared.frame.Frame.{Frame}
-use Rattle.frames.specs.Frames.{frame_of}
 use Rattle.stores.specs.declared.window.SavedWindow.{SavedWindow}
 
 -- the frame that a saved window is
 abbrev pub saved_frame : SavedWindow → Frame
-saved_frame w = frame_of w.ins w.locals
+saved_frame w = w.frame

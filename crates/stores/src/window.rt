@@ -1,13 +1,14 @@
 // A saved window.
 ghost use Rattle.std.specs.Prelude.{◌≡◌, length};
 
+use frames::frame::Frame;
+
+// A frame whose type carries that it has eight words in each group, so that what a store holds has them too.
 #[derive(Clone, Copy)]
 pub struct SavedWindow {
-    pub locals: [u32; 8],
-    pub ins: [u32; 8],
-    // Its type carries the lengths, so that what a store holds has them too.
-    ghost eight_locals: { length locals ≡ 8 },
-    ghost eight_ins: { length ins ≡ 8 },
+    pub frame: Frame,
+    ghost eight_ins: { length frame.ins ≡ 8 },
+    ghost eight_locals: { length frame.locals ≡ 8 },
 }
 
 impl SavedWindow {
@@ -18,9 +19,10 @@ impl SavedWindow {
     pub fn zeros() -> SavedWindow
         ensures every_word_is_0 { saved_frame result ≡ frame_of zeros zeros }
     {
-        SavedWindow {
-            locals: [0; 8],
+        let frame = Frame {
             ins: [0; 8],
-        }
+            locals: [0; 8],
+        };
+        SavedWindow { frame }
     }
 }

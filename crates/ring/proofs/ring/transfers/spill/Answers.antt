@@ -4,6 +4,6 @@ use Rattle.ring.proofs.ring.transfers.spill.Goals as goal
 
 pub loop-j-preserved : goal.loop-j-preserved
 loop-j-preserved g c = (
-  spill_more c.args.windows.now _ _ _ _ _ _ c.window.result (omega arith) (omega arith) c.oldest-w.ensures c.window.ensures.copies_the_locals c.window.ensures.copies_the_ins c.put.ensures.holds_the_list_after c.loop-j.invariant.0,
+  spill_more c.args.windows.now _ _ _ _ _ _ c.window.result (omega arith) (omega arith) c.oldest-w.ensures c.window.ensures c.put.ensures.holds_the_list_after c.loop-j.invariant.0,
   search rules,
 )
