@@ -28,10 +28,9 @@ fn run(rt: &HostRuntime) -> Result<(), Trouble> {
     let playback = replay(rt.alloc(), trace.as_slice())?;
     rt.write_all(playback.text.as_bytes())
         .map_err(Trouble::Output)?;
-    match playback.fault {
-        Some(fault) => Err(Trouble::Line(fault)),
-        None => Ok(()),
-    }
+    playback
+        .fault
+        .map_or(Ok(()), |fault| Err(Trouble::Line(fault)))
 }
 
 fn main(rt: HostRuntime) -> ExitCode {

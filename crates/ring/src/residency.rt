@@ -31,14 +31,14 @@ fn wrapped(windows: WindowCount, x: u32) -> Window
 fn with_bit(mask: u32, w: Window) -> u32
     ensures { result ≡ bit_or mask (2 ^ w.number) }
 {
-    mask | 1 << w.number()
+    mask | 1 << u32::from(w)
 }
 
 // The mask with window w resident.
 fn without_bit(mask: u32, w: Window) -> u32
     ensures { result ≡ bit_and mask (4294967295 - 2 ^ w.number) }
 {
-    mask & !(1 << w.number())
+    mask & !(1 << u32::from(w))
 }
 
 // The mask with window 0 alone resident.
@@ -157,7 +157,7 @@ impl Residency {
     {
         *self = Residency {
             windows: self.windows,
-            pointer: self.below().number(),
+            pointer: u32::from(self.below()),
             mask: self.advanced_mask(k),
         };
     }
@@ -170,7 +170,7 @@ impl Residency {
     {
         *self = Residency {
             windows: self.windows,
-            pointer: self.above(1).number(),
+            pointer: u32::from(self.above(1)),
             mask: self.retreated_mask(k),
         };
     }

@@ -19,12 +19,6 @@ impl Window {
         Window { number }
     }
 
-    pub(crate) fn number(self) -> u32
-        ensures { result ≡ self.number }
-    {
-        self.number
-    }
-
     // Where its locals begin in the words of a ring.
     pub(crate) fn locals(self) -> usize
         ensures { result ≡ locals_at self.number }
@@ -37,5 +31,15 @@ impl Window {
         ensures { result ≡ ins_at self.number }
     {
         self.locals() + 8
+    }
+}
+
+impl From<Window> for u32 {
+    ghost use Rattle.std.specs.Prelude.{◌≡◌};
+
+    ghost from_gives = { λ w n. n ≡ w.number };
+
+    fn from(window: Window) -> u32 {
+        window.number
     }
 }
