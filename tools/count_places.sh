@@ -23,7 +23,7 @@ look 'fn (refusal|acceptance|reading|zero|get|is_same|both|room_of|capacity_of|r
 title '5a clauses in three functions or more'
 grep -rhoE '^\s*(requires|ensures)( [a-z_]+)? \{.*\}' crates/*/src --include=*.rt | sed -E 's/^\s*(requires|ensures)( [a-z_]+)? //; s/beside\.old/beside/g; s/ring\.old/ring/g' | sort | uniq -c | sort -rn | awk '$1 >= 3'
 title '5b parameters that go together in three functions or more'
-grep -rhoE '(heap|alloc): Global, [a-z]+: [^,)]*, requests: &\[u8\]|(heap|alloc): Global, text: &mut String' crates/*/src --include=*.rt | sort | uniq -c
+grep -rhoE '(heap|alloc): Global, [a-z]+: [^,)]*, requests: &\[u8\]|(heap|alloc): Global, text: &mut String' crates/*/src --include=*.rt | sort | uniq -c | awk '$1 >= 3'
 for words in 'text: &mut String' 'beside: (&mut )?F,' 'requests: &\[u8\]'; do printf '%s  %s\n' "$(look "$words" | wc -l)" "$words"; done
 title '6 buffers with a length beside, fixed tables'
 look '^ *len: usize|: \[[A-Za-z0-9]+; [0-9]+\],|\}; [0-9]+\]'
