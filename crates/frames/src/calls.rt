@@ -30,7 +30,7 @@ pub type Answer = Result<Reply, FileFault>;
 fn dispatch<F: RegisterFile>(file: &mut F, call: Call) -> Answer
     ensures answers_as_the_frames_do { result ≡ answer_to (F.state file.old) call }
     ensures holds_the_frames_after { F.state file.new ≡ after_call (F.state file.old) call }
-    ensures moves_as_the_file_does { F.Moves file.old call file.new }
+    ensures moves_as_the_file_does { F.effects.Moves file.old call file.new }
 {
     match call {
         Call::Save => file.save().map(|()| Reply::Accepted),
@@ -45,7 +45,7 @@ fn dispatch<F: RegisterFile>(file: &mut F, call: Call) -> Answer
 // Performs one call on any register file.
 pub fn perform<F: RegisterFile>(file: &mut F, call: Call) -> Answer
     ensures performs_the_call { Performed (F.state file.old) call result (F.state file.new) }
-    ensures moves_as_the_file_does { F.Moves file.old call file.new }
+    ensures moves_as_the_file_does { F.effects.Moves file.old call file.new }
     ensures frames_keep_their_laws { FrameLaws }
 {
     dispatch(file, call)

@@ -1,9 +1,8 @@
 // What every register file does, by the list of frames that it stands for.
 ghost use Rattle.std.specs.Prelude.{◌≡◌};
-ghost use Rattle.frames.specs.declared.calls.Call.{Call};
 ghost use Rattle.frames.specs.declared.calls.Call.TheVariants.{Save, Restore, Write};
 ghost use Rattle.frames.specs.Frames.{Frames, Shaped, read_answer, write_answer, write_after, save_answer, save_after, restore_answer, restore_after, told_depth, told_spare};
-ghost use Rattle.frames.specs.Stillness.{AskingMovesNothing};
+ghost use Rattle.frames.specs.Stillness.{Effects, no_effects};
 
 use refusal::faults::FileFault;
 
@@ -13,8 +12,8 @@ pub trait RegisterFile {
     // Each group has eight words, and the depth is at most the capacity.
     ghost shape: { (x : Self) → Shaped (state x) };
 
-    // What a call does to more than the frames, in a file that has more.
-    ghost Moves: { Self → Call → Self → Type 0 };
+    // What a call does to more than the frames, and that asking does nothing to that. A file that has nothing else leaves it out.
+    ghost effects: { Effects Self } = { no_effects };
 
     // The word of a register of the newest frame.
     fn read(&self, register: u32) -> Result<u32, FileFault>
@@ -24,19 +23,19 @@ pub trait RegisterFile {
     fn write(&mut self, register: u32, word: u32) -> Result<(), FileFault>
         ensures answers_as_the_frames_do { result ≡ write_answer register }
         ensures holds_the_frames_after { state self.new ≡ write_after (state self.old) register word }
-        ensures moves_as_the_file_does { Moves self.old (Write register word) self.new };
+        ensures moves_as_the_file_does { effects.Moves self.old (Write register word) self.new };
 
     // Opens a frame whose ins are the outs.
     fn save(&mut self) -> Result<(), FileFault>
         ensures answers_as_the_frames_do { result ≡ save_answer (state self.old) }
         ensures holds_the_frames_after { state self.new ≡ save_after (state self.old) }
-        ensures moves_as_the_file_does { Moves self.old Save self.new };
+        ensures moves_as_the_file_does { effects.Moves self.old Save self.new };
 
     // Closes the newest frame, and its ins become the outs.
     fn restore(&mut self) -> Result<(), FileFault>
         ensures answers_as_the_frames_do { result ≡ restore_answer (state self.old) }
         ensures holds_the_frames_after { state self.new ≡ restore_after (state self.old) }
-        ensures moves_as_the_file_does { Moves self.old Restore self.new };
+        ensures moves_as_the_file_does { effects.Moves self.old Restore self.new };
 
     // The number of frames, at most 65,536.
     fn depth(&self) -> u32
@@ -45,7 +44,4 @@ pub trait RegisterFile {
     // How many frames more there may be, at most 65,535.
     fn spare(&self) -> u32
         ensures answers_as_the_frames_do { result ≡ told_spare (state self.now) };
-
-    // Read, depth and spare move nothing.
-    ghost asking: { (x : Self) → AskingMovesNothing Moves x };
 }

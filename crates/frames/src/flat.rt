@@ -97,11 +97,6 @@ impl RegisterFile for FlatFile {
 
     ghost shape = { λ f. flat_shape f };
 
-    // It has nothing but its frames.
-    ghost Moves = { λ x c y. Unit {0} };
-
-    ghost asking = { λ x. record { read = λ r. tt; depth = tt; spare = tt } };
-
     fn read(&self, register: u32) -> Result<u32, FileFault> {
         let register = Register::try_from(register)?;
         Ok(self.words[self.place(register)])

@@ -1,9 +1,12 @@
 -- The flat file that a first line asks for, and that its lines have one outcome.
-use Rattle.std.proofs.Common.{◌≡◌, ℕ, ◌^◌, ◌<◌, List, [], length, Some, None, codes, decimal, Option, sym, ap, ◌∙◌, arith}
+use Rattle.std.proofs.Common.{◌≡◌, ℕ, ◌^◌, ◌<◌, true, List, [], length, Some, None, codes, decimal, Option, sym, ap, ◌∙◌, subst, arith}
 use Rattle.std.proofs.lemmas.Fmt.{decimal_injective}
 use Rattle.std.proofs.lemmas.List.{append_cancel_left}
+use Rattle.std.proofs.lemmas.Bool.{cond-true}
 use Rattle.refusal.specs.declared.faults.SetupFault.{SetupFault}
-use Rattle.frames.specs.Frames.{fresh}
+use Rattle.refusal.specs.declared.faults.SetupFault.TheVariants.{FlatCapacity}
+use Rattle.frames.specs.Frames.{Frames, fresh}
+use Rattle.frames.specs.Flat.{is_flat_capacity}
 use Rattle.trace.specs.Lines.{lines, first_line, after_line}
 use Rattle.trace.specs.Texts.{Small, flat_text}
 use Rattle.script.specs.declared.faults.Expected.TheVariants.{Setup}
@@ -11,8 +14,10 @@ use Rattle.script.specs.declared.faults.LineFault.{LineFault}
 use Rattle.script.specs.Scripts.{unread}
 use Rattle.script.proofs.OneScript.{one_script}
 use Rattle.playback.specs.Playing.{played_text}
+use Rattle.playback.specs.LineByLine.{Plays}
 use Rattle.playback.specs.Flats.{FlatOutcome, PlayedFlat, Unless, capacity_fault}
 use Rattle.playback.specs.Replaying.{FlatLine, OneOutcome, Replays}
+use Rattle.playback.proofs.LineByLine.{by_script}
 use Rattle.playback.proofs.First.{Same, chosen, not_chosen, one_outcome}
 
 -- two files of one first line have one capacity
@@ -37,6 +42,11 @@ module _ (ls : List (List ℕ)) (t t' : List ℕ) (f f' : Option LineFault) wher
 
 pub flat_outcome_once : (n : ℕ) (ls : List (List ℕ)) (t t' : List ℕ) (f f' : Option LineFault) → FlatOutcome n ls t f → FlatOutcome n ls t' f' → Same t t' f f'
 flat_outcome_once n ls t t' f f' p q = unless_once ls t t' f f' (capacity_fault n) _ _ (flat_once ls t t' f f' n) p q
+
+-- lines played one by one on a fresh file are what they come to on it
+pub flat_by_lines : (n : ℕ) (s : Frames) (ls : List (List ℕ)) (t : List ℕ) (f : Option LineFault) → is_flat_capacity n ≡ true → s ≡ fresh n → Plays 2 s ls t f → FlatOutcome n ls t f
+flat_by_lines n s ls t f such made played =
+    subst (λ (o : Option SetupFault). Unless o (PlayedFlat n ls t f) t f) (sym (cond-true (is_flat_capacity n) None (Some (FlatCapacity n)) such)) (by_script (subst (λ (u : Frames). Plays 2 u ls t f) made played))
 
 -- a whole trace
 pub one_flat_outcome : OneOutcome Replays

@@ -1,3 +1,4 @@
 pub mod First
 pub mod Flats
 mod LineByLine
+mod Turns

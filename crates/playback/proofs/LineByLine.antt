@@ -17,7 +17,7 @@ by_lines {f = f} (one_more {cs = cs} c call rest) s =
     answers c call (by_lines rest (after_call s c))
     (append_assoc (ended (answer_text (answer_to s c))) (answers_text (after_call s c) cs) (closing f (listing_text (after_calls s (c ∷ cs)))))
 
-by_script : {k : ℕ} {s : Frames} {ls : List (List ℕ)} {text : List ℕ} {f : Option LineFault} → Plays k s ls text f → (cs : List Call) × Scripted k ls cs f × (text ≡ played_text s cs f)
+pub by_script : {k : ℕ} {s : Frames} {ls : List (List ℕ)} {text : List ℕ} {f : Option LineFault} → Plays k s ls text f → (cs : List Call) × Scripted k ls cs f × (text ≡ played_text s cs f)
 by_script (lists_the_frames e) = ([], no_more, e)
 by_script (breaks_off none) = ([], no_call none, refl)
 by_script {s = s} (answers c call rest e) =

@@ -5,10 +5,9 @@ ghost use Rattle.playback.specs.Flats.{FlatOutcome};
 ghost use Rattle.playback.specs.LineByLine.{PlaysLineByLine};
 ghost use Rattle.playback.specs.Replaying.{Replays, OneOutcome};
 
-use crate::playing::{Playback, play, refused, unchosen};
+use crate::playing::{Playback, play_lines, refused, unchosen};
 use frames::flat::FlatFile;
 use script::faults::Expected;
-use script::scripts::read_script;
 use std::alloc::{AllocError, Global};
 use trace::lines::split_line;
 use trace::requests::read_flat;
@@ -28,11 +27,12 @@ pub fn replay(alloc: Global, trace: &[u8]) -> Result<Playback, AllocError>
 }
 
 // The file is made first: where it is refused, no other line is looked at.
+#[tactic(auto, using(crate::proofs::Flats::flat_by_lines))]
 pub fn replay_flat(alloc: Global, capacity: u32, requests: &[u8]) -> Result<Playback, AllocError>
     ensures plays_every_line_or_refuses { IfOk result (λ p. FlatOutcome capacity (lines requests.now) (string_bytes p.text) p.fault) }
 {
     match FlatFile::new(capacity) {
-        Ok(file) => play(alloc, file, read_script(alloc, requests)?),
+        Ok(file) => play_lines(alloc, file, requests),
         Err(fault) => refused(alloc, fault),
     }
 }

@@ -3,8 +3,11 @@
 
 #[cfg(test)]
 mod tests {
+    use frames::flat::FlatFile;
+    use playback::playing::play;
     use playback::replaying::{replay, replay_flat};
     use script::faults::{Expected, LineFault};
+    use script::scripts::read_script;
     use std::test::Fail;
 
     #[test]
@@ -43,6 +46,19 @@ mod tests {
     fn flat_file_meets_the_lines_after_the_first(rt: HostRuntime) -> Result<(), Fail> {
         let played = replay_flat(rt.alloc(), 2, b"save\nsave\nbye\n")?;
         assert_eq!(rt; played.text.as_str(), "ok\nrefused 2 File at 2\n");
+        let fault = LineFault {
+            line: 4,
+            expected: Expected::Request,
+        };
+        assert_eq!(rt; played.fault, Some(fault));
+        Ok(())
+    }
+
+    #[test]
+    fn script_is_played_up_to_its_fault(rt: HostRuntime) -> Result<(), Fail> {
+        let script = read_script(rt.alloc(), b"save\nread 24\nsaved\ndepth\n")?;
+        let played = play(rt.alloc(), FlatFile::new(2).unwrap(), script)?;
+        assert_eq!(rt; played.text.as_str(), "ok\nword 0\n");
         let fault = LineFault {
             line: 4,
             expected: Expected::Request,

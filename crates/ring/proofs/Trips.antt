@@ -70,7 +70,7 @@ take_fewer xs ys zs j h sofar took =
     ∙ take-take (length xs - (j + 1)) (length xs - j) xs (omega arith)
 
 -- the one taken is the next older
-taken_is : (xs ys : List Frame) (j : ℕ) (old : Frame) → j < length xs → ys ≡ take (length xs - j) xs → taken ys old ≡ get_or xs (length xs - (j + 1)) old
+pub taken_is : (xs ys : List Frame) (j : ℕ) (old : Frame) → j < length xs → ys ≡ take (length xs - j) xs → taken ys old ≡ get_or xs (length xs - (j + 1)) old
 taken_is xs ys j old h sofar =
     let l : length ys ≡ length xs - j = ap length sofar ∙ length-take-le (length xs - j) xs (omega arith) in
     let e : length ys - 1 ≡ length xs - (j + 1) = omega arith in

@@ -22,7 +22,7 @@ use Rattle.ring.proofs.Uppers.{upper_end, upper_same}
 
 -- read
 
-word_ring : (xs : List Frame) (room : ℕ) (ws : List ℕ) (n p r k : ℕ) → 8 ≤ k → k < 32 → word (ring_frames xs room ws n p r) k ≡ get_or ws (place_of n p k) 0
+pub word_ring : (xs : List Frame) (room : ℕ) (ws : List ℕ) (n p r k : ℕ) → 8 ≤ k → k < 32 → word (ring_frames xs room ws n p r) k ≡ get_or ws (place_of n p k) 0
 word_ring xs room ws n p r k low high =
     let s : Frames = ring_frames xs room ws n p r in
     let out = λ (l : k < 16). word_out s k l ∙ eight_get ws (ins_at (down n p)) (k - 8) (omega arith) in
@@ -39,7 +39,7 @@ read_ring xs room t k q v low high at is =
 
 -- write
 
-with_word_ring : (xs : List Frame) (room : ℕ) (ws : List ℕ) (n p r k v : ℕ) → 2 ≤ n → p < n → r < n → 8 ≤ k → k < 32 →
+pub with_word_ring : (xs : List Frame) (room : ℕ) (ws : List ℕ) (n p r k v : ℕ) → 2 ≤ n → p < n → r < n → 8 ≤ k → k < 32 →
     ring_frames xs room (set ws (place_of n p k) v) n p r ≡ with_word (ring_frames xs room ws n p r) k v
 unfolding with_word
 with_word_ring xs room ws n p r k v two inside few low high =

@@ -1,7 +1,8 @@
 -- What a save and a restore move: a ring seen as a few numbers.
-use Rattle.std.specs.Prelude.{ℕ, ◌+◌, ◌-◌, ◌^◌, min, cond, List, [], ◌∷◌, length, nat_lt}
+use Rattle.std.specs.Prelude.{◌≡◌, ℕ, ◌+◌, ◌-◌, ◌^◌, min, cond, List, [], ◌∷◌, length, nat_lt, refl}
 use Rattle.frames.specs.declared.calls.Call.{Call}
 use Rattle.frames.specs.declared.calls.Call.TheVariants.{Save, Restore, Read, Write, Depth, Spare}
+use Rattle.frames.specs.Stillness.{Effects}
 use Rattle.policies.specs.declared.policy.SpillPolicy.{Ghosts as Policy}
 use Rattle.stores.specs.declared.store.SaveStore.{Ghosts as Store}
 use Rattle.ring.specs.declared.counts.Counts.{Counts}
@@ -144,6 +145,10 @@ moves_by r x (Read i) = x
 moves_by r x (Write i v) = x
 moves_by r x Depth = x
 moves_by r x Spare = x
+
+-- what a call on a ring does to more than its frames
+abbrev pub ring_effects : {S P : Type 0} → Store S → Policy P → Effects (WindowRing S P)
+ring_effects s r = record { Moves = λ x c y. moving s y ≡ moves_by r (moving s x) c; asking = λ x. record { read = λ i. refl; depth = refl; spare = refl } }
 
 -- a list of calls, one after the other
 abbrev pub moves_by_all : {P : Type 0} → Policy P → Moving P → List Call → Moving P

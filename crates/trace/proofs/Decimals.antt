@@ -19,7 +19,7 @@ wide n h = omega arith
 pub only_digits : (n c : ℕ) → n < 2 ^ 32 → (48 ≤ c → c ≤ 57 → ⊥) → (i : ℕ) → i < length (decimal n) → get_or (decimal n) i 0 ≡ c → ⊥
 only_digits n c h apart = not_in_digits own (decimal n) c (digits_decimal own n (wide n h)) (λ d. apart d.0 d.1)
 
-decimal_utf8 : (n : ℕ) → n < 2 ^ 32 → IsUtf8 (decimal n)
+pub decimal_utf8 : (n : ℕ) → n < 2 ^ 32 → IsUtf8 (decimal n)
 decimal_utf8 n h = IsUtf8-from_ascii (decimal n) (IsAscii-decimal n (wide n h))
 
 pub decimal_plain : (n : ℕ) → n < 2 ^ 32 → Plain (decimal n)

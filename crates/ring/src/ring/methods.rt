@@ -1,8 +1,8 @@
 // What a ring answers as a register file, and what it moves.
-ghost use Rattle.std.specs.Prelude.{◌≡◌, ◌+◌, min, refl};
+ghost use Rattle.std.specs.Prelude.{◌≡◌, ◌+◌, min};
 ghost use Rattle.frames.specs.Frames.{save_answer, save_after, restore_answer, restore_after, write_answer, write_after};
 ghost use Rattle.ring.specs.Cycle.{most_resident};
-ghost use Rattle.ring.specs.Movements.{moving, moves_by, room_for_frames, saves, restores};
+ghost use Rattle.ring.specs.Movements.{moving, ring_effects, room_for_frames, saves, restores, spill_size, fill_size};
 ghost use Rattle.ring.specs.Rings.{frames_of};
 ghost use Rattle.ring.specs.RingShape.{ring_shape};
 ghost use Rattle.ring.specs.Tables.{count_of};
@@ -25,6 +25,20 @@ impl<S: SaveStore, P: SpillPolicy> WindowRing<S, P> {
         let most = self.windows.residency.most_resident();
         amount.min(most).min(limit)
     }
+
+    // How many windows go at an overflow.
+    fn spill_size(&self) -> u32
+        ensures { result ≡ spill_size (P.SpillPolicy.spills self.now.policy) (moving S.SaveStore self.now).numbers }
+    {
+        self.trap_size(self.policy.spill_amount(), self.store.spare())
+    }
+
+    // How many windows come at an underflow.
+    fn fill_size(&self) -> u32
+        ensures { result ≡ fill_size (P.SpillPolicy.fills self.now.policy) (moving S.SaveStore self.now).numbers }
+    {
+        self.trap_size(self.policy.fill_amount(), self.store.held())
+    }
 }
 
 impl<S: SaveStore, P: SpillPolicy> RegisterFile for WindowRing<S, P> {
@@ -32,9 +46,7 @@ impl<S: SaveStore, P: SpillPolicy> RegisterFile for WindowRing<S, P> {
 
     ghost shape = { λ x. ring_shape S.SaveStore x };
 
-    ghost Moves = { λ x c y. moving S.SaveStore y ≡ moves_by P.SpillPolicy (moving S.SaveStore x) c };
-
-    ghost asking = { λ x. record { read = λ r. refl; depth = refl; spare = refl } };
+    ghost effects = { ring_effects S.SaveStore P.SpillPolicy };
 
     fn read(&self, register: u32) -> Result<u32, FileFault> {
         let at = self.windows.place(Register::try_from(register)?);
@@ -63,7 +75,7 @@ impl<S: SaveStore, P: SpillPolicy> RegisterFile for WindowRing<S, P> {
             self.windows.enter(0);
             return Ok(());
         }
-        let k = self.trap_size(self.policy.spill_amount(), self.store.spare());
+        let k = self.spill_size();
         // No amount is 0, so it is the store that has no spare.
         if k == 0 {
             return Err(FileFault::AtCapacity(self.depth()));
@@ -84,7 +96,7 @@ impl<S: SaveStore, P: SpillPolicy> RegisterFile for WindowRing<S, P> {
             self.windows.leave(0);
             return Ok(());
         }
-        let k = self.trap_size(self.policy.fill_amount(), self.store.held());
+        let k = self.fill_size();
         // No amount is 0, so it is the store that is empty.
         if k == 0 {
             return Err(FileFault::LastFrame(self.depth()));

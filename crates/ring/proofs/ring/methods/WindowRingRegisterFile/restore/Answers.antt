@@ -1,5 +1,4 @@
-use Rattle.std.proofs.Common.{rules, ◌≡◌, ℕ, ◌<◌, ◌≤◌, length, ap, ◌∙◌, arith}
-use Rattle.ring.specs.Movements.{fill_size, moving}
+use Rattle.std.proofs.Common.{rules, ℕ, ◌<◌, ◌≤◌, length, ap, ◌∙◌, arith}
 use Rattle.ring.specs.Tables.{count_of, pointer_of, resident_of}
 use Rattle.ring.specs.Transfers.{Filled}
 use Rattle.ring.specs.Words.{upper, window_at}
@@ -17,12 +16,12 @@ pub returns : goal.returns
 returns g c =
     let x = c.args.self.now in
     let s = g.S.SaveStore in
-    let k : ℕ = c.trap_size-k.result in
+    let k : ℕ = c.fill_size-k.result in
     let few = x.windows.residency.windows.few in
     let one : resident_of x.windows ≤ 1 = omega arith in
-    let some : 1 ≤ c.trap_size-k.result = omega (arith, c.if-k-eq0.false) in
-    let is : c.trap_size-k.result ≡ fill_size (g.P.SpillPolicy.fills x.policy) (moving g.S.SaveStore x).numbers = omega (arith, c.trap_size-k.ensures, c.fill_amount.ensures.answers_its_amount, c.held.ensures.answers_as_the_list_does) in
-    let fits : c.trap_size-k.result ≤ length (g.S.SaveStore.windows x.store) = omega arith in
+    let some : 1 ≤ c.fill_size-k.result = omega (arith, c.if-k-eq0.false) in
+    let is = c.fill_size-k.ensures in
+    let fits : c.fill_size-k.result ≤ length (g.S.SaveStore.windows x.store) = omega arith in
     let words = c.leave-2.ensures.keeps_the_words in
     let moved = c.fill.ensures.takes_the_newest_first in
     let filled : Filled x.windows.residency c.leave-2.new.self.table.words (s.windows x.store) (s.windows c.fill.new.store) k =

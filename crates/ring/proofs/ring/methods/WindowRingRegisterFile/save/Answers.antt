@@ -1,6 +1,5 @@
-use Rattle.std.proofs.Common.{rules, ◌≡◌, ℕ, ◌<◌, ◌≤◌, length, arith}
+use Rattle.std.proofs.Common.{rules, ℕ, ◌<◌, ◌≤◌, length, arith}
 use Rattle.ring.specs.Cycle.{most_resident}
-use Rattle.ring.specs.Movements.{moving, spill_size}
 use Rattle.ring.specs.Tables.{count_of, resident_of}
 use Rattle.ring.proofs.Saving.{save_within, save_at_capacity, save_with_overflow}
 use Rattle.ring.proofs.ring.methods.WindowRingRegisterFile.save.Goals as goal
@@ -19,7 +18,7 @@ returns-then-k-eq0 g c =
     let some = range.some_spill in
     let low = x.windows.residency.windows.some_resident in
     let full : most_resident (count_of x.windows) ≤ resident_of x.windows = omega arith in
-    let none : g.S.SaveStore.capacity x.store ≤ length (g.S.SaveStore.windows x.store) = omega (arith, c.trap_size-k.ensures, c.spill_amount.ensures.answers_its_amount, c.spare.ensures.answers_as_the_list_does, c.if-k-eq0.true) in
+    let none : g.S.SaveStore.capacity x.store ≤ length (g.S.SaveStore.windows x.store) = omega (arith, c.spill_size-k.ensures, c.if-k-eq0.true) in
     let done = save_at_capacity g.S.SaveStore g.P.SpillPolicy x c.depth.result full none c.depth.ensures.answers_as_the_frames_do in
     search rules
 
@@ -27,10 +26,10 @@ pub returns : goal.returns
 returns g c =
     let x = c.args.self.now in
     let few = x.windows.residency.windows.few in
-    let k : ℕ = c.trap_size-k.result in
+    let k : ℕ = c.spill_size-k.result in
     let full : most_resident (count_of x.windows) ≤ resident_of x.windows = omega arith in
-    let is : c.trap_size-k.result ≡ spill_size (g.P.SpillPolicy.spills x.policy) (moving g.S.SaveStore x).numbers = omega (arith, c.trap_size-k.ensures, c.spill_amount.ensures.answers_its_amount, c.spare.ensures.answers_as_the_list_does) in
+    let is = c.spill_size-k.ensures in
     let some : length (g.S.SaveStore.windows x.store) < g.S.SaveStore.capacity x.store = omega (arith, c.if-k-eq0.false) in
-    let fits : c.trap_size-k.result ≤ resident_of x.windows = omega arith in
+    let fits : c.spill_size-k.result ≤ resident_of x.windows = omega arith in
     let done = save_with_overflow g.S.SaveStore g.P.SpillPolicy x c.enter-2.new.self _ _ _ k c.enter-2.ensures.pointer_goes_down c.enter-2.ensures.new_frame_is_cleared c.spill.ensures.puts_the_oldest_first c.spill.ensures.keeps_the_capacity fits full some is c.note_overflow.ensures.tells_the_policy_once c.note_overflow.ensures.counts_the_overflow in
     search rules
